@@ -11,11 +11,27 @@ impl Pipe {
     pub fn from_row(row: &Row) -> Option<Pipe>
         ensures { λ r. ⌜ Cases r (Sound-flow (now (row .entry)) → ⊥) (λ p. same-row p (now (row .entry))) ⌝ }
     {
-        let Row { from, to, limit, flow, valve } = *row;
+        let Row {
+            from,
+            to,
+            limit,
+            flow,
+            valve,
+        } = *row;
         let room = match valve {
             Valve::Open => limit,
             Valve::Closed => 0,
         };
-        if flow <= room { Some(Pipe { from, to, limit, flow, valve }) } else { None }
+        if flow <= room {
+            Some(Pipe {
+                from,
+                to,
+                limit,
+                flow,
+                valve,
+            })
+        } else {
+            None
+        }
     }
 }

@@ -7,6 +7,7 @@ use crate::row::Row;
 
 // The most junctions and the most pipes that a network has.
 pub const MOST_JUNCTIONS: usize = 64;
+
 pub const MOST_PIPES: usize = 512;
 
 // A network with a flow on it. The first `count` rows are its pipes; the number of rows is fixed, so that nothing allocates.
