@@ -1,0 +1,4 @@
+pub mod Digits
+pub mod Ends
+pub mod Numbers
+pub mod Patterns

@@ -1,0 +1,6 @@
+pub mod Fields
+pub mod Letters
+pub mod Lines
+pub mod Readers
+pub mod Refusals
+pub mod Sheets

@@ -1,0 +1,9 @@
+pub mod fields;
+pub mod header;
+pub mod letters;
+pub mod lines;
+pub mod reader;
+pub mod refusal;
+pub mod refusals;
+pub mod setting;
+pub mod sheet;
