@@ -1,4 +1,6 @@
 pub mod Digits
 pub mod Ends
+pub mod Moves
 pub mod Numbers
 pub mod Patterns
+pub mod Pipes

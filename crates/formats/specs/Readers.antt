@@ -16,3 +16,8 @@ pub record Advanced (before after : Reader) : Type 0 where
   pub left : rest after ≡ after-line (rest before)
   pub counted : after .lines ≡ before .lines + 1
   pub same-text : now (after .text) ≡ now (before .text)
+
+-- a reader that has read n lines more
+pub record Went (n : ℕ) (before after : Reader) : Type 0 where
+  pub counted : after .lines ≡ before .lines + n
+  pub same-text : now (after .text) ≡ now (before .text)

@@ -12,7 +12,9 @@ use Rattle.std.specs.declared.option.Option.the-variants.{Some, None}
 use Rattle.std.specs.declared.result.Result.{Result}
 use Rattle.std.specs.declared.result.Result.the-variants.{Ok, Err}
 use Rattle.network.specs.declared.valve.Valve.{Valve}
+use Rattle.network.specs.declared.row.Row.{Row}
 use Rattle.network.specs.Network.{Pipe, Network}
+use Rattle.network.specs.Rows.{Each, Joined, Limited, Dry}
 use Rattle.formats.specs.declared.refusal.Refusal.{Refusal}
 use Rattle.formats.specs.declared.refusal.Refusal.the-variants.{BadLine, WrongKind, BadNumber, OutOfRange, WrongLetter, SameEnds}
 use Rattle.formats.specs.declared.header.Header.{Header}
@@ -82,6 +84,10 @@ pipe-in junctions i bs =
 
 abbrev pub next-pipe : ℕ → ℕ → List ℕ → Result Pipe Refusal
 next-pipe junctions i bs = and-then (due (codes "PIPE") 24 i bs) (pipe-in junctions i)
+
+-- rows that such lines give: sound, and with no flow
+abbrev pub Dry-rows : ℕ → List Row → ℕ → Type 0
+Dry-rows n rows count = Each (Joined n) rows count × Each Limited rows count × Each Dry rows count
 
 -- k pipe lines more, of which line i is the first, after the pipes ps: all pipes, and the bytes that follow
 abbrev pub pipes-in : ℕ → ℕ → ℕ → List ℕ → List Pipe → Result (List Pipe × List ℕ) Refusal

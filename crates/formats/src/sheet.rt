@@ -1,13 +1,13 @@
 ghost use mathlib.Core.Path.{_≡_};
+ghost use mathlib.Core.List.{[], map};
 ghost use Prim.Native.Nat.{ℕ, _+_, _*_, _-_, _<_, _≤_};
-ghost use lib.Chars.{codes};
 ghost use lib.ListN.{length, getD, take, drop};
 ghost use Rattle.std.specs.declared.result.Result.the-variants.{Ok, Err};
 ghost use Rattle.std.specs.Vec.{made};
-ghost use Rattle.network.specs.Rows.{Joined, Limited};
+ghost use Rattle.network.specs.Rows.{Each, Joined, Limited, Dry};
 ghost use Rattle.network.specs.Pipes.{pipe-of, network-of};
-ghost use Rattle.formats.specs.Readers.{rest, Advanced};
-ghost use Rattle.formats.specs.Sheets.{of-kind, due, ranged, number-at, header, valve-at, pipe-in, header-in, next-pipe, Sound-header};
+ghost use Rattle.formats.specs.Readers.{rest, Advanced, Went};
+ghost use Rattle.formats.specs.Sheets.{of-kind, due, ranged, number-at, header, valve-at, pipe-in, header-in, next-pipe, pipes-in, sheet-in, Sound-header, Dry-rows};
 use crate::fields::read_number;
 use crate::header::Header;
 use crate::letters::read_valve;
@@ -142,5 +142,37 @@ impl Reader<'_> {
     {
         let line = self.due(b"PIPE", SHEET_COLUMNS)?;
         line.pipe(junctions)
+    }
+
+    // The pipe lines of a sheet, into the first rows.
+    fn pipes(&mut self, junctions: usize, count: usize, rows: &mut [Row]) -> Result<(), Refusal>
+        requires some { ⌜ 1 ≤ junctions ⌝ }
+        requires held { ⌜ count ≤ length (now rows) ⌝ }
+        ensures { λ r. ⌜ elim r [ Ok u ↦ (pipes-in count junctions (now (self .entry) .lines + 1) (rest (now (self .entry))) [] ≡ Ok (map pipe-of (take count (now (rows .exit))), rest (now (self .exit))))
+            × Dry-rows junctions (now (rows .exit)) count
+            × Went count (now (self .entry)) (now (self .exit))
+          | Err e ↦ pipes-in count junctions (now (self .entry) .lines + 1) (rest (now (self .entry))) [] ≡ Err e ] ⌝ }
+    {
+        for k in 0..count {
+            let row = self.next_pipe(junctions)?;
+            rows[k] = row;
+        }
+        Ok(())
+    }
+
+    // The network of a sheet, with dry pipes.
+    pub fn sheet(&mut self, most: usize) -> Result<Table, Refusal>
+        requires two { ⌜ 2 ≤ most ⌝ }
+        requires few { ⌜ most ≤ 64 ⌝ }
+        ensures { λ r. ⌜ elim r [ Ok t ↦ (sheet-in most (now (self .entry) .lines + 1) (rest (now (self .entry))) ≡ Ok (network-of t, rest (now (self .exit))))
+            × (t .junctions ≤ most)
+            × Each Dry (t .rows) (t .count)
+            × Went (1 + t .count) (now (self .entry)) (now (self .exit))
+          | Err e ↦ sheet-in most (now (self .entry) .lines + 1) (rest (now (self .entry))) ≡ Err e ] ⌝ }
+    {
+        let Header { junctions, pipes, pump, outlet } = self.next_header(most)?;
+        let mut rows = [NO_ROW; MOST_PIPES];
+        self.pipes(junctions, pipes, &mut rows)?;
+        Ok(Table { junctions, pump, outlet, rows, count: pipes })
     }
 }

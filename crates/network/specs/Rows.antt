@@ -1,4 +1,5 @@
 -- The rules that rows of a table keep.
+use mathlib.Core.Path.{_≡_}
 use mathlib.Core.List.{List}
 use mathlib.Core.Logic.{_≢_}
 use Prim.Native.Nat.{ℕ, _≤_, _<_}
@@ -13,6 +14,10 @@ no-row = record { from = 0; to = 0; limit = 0; flow = 0; valve = Closed }
 -- the flow is at most what the valve lets through
 abbrev pub Sound-flow : Row → Type 0
 Sound-flow r = r .flow ≤ room (r .valve) (r .limit)
+
+-- the pipe carries nothing
+abbrev pub Dry : Row → Type 0
+Dry r = r .flow ≡ 0
 
 -- two different ends among n junctions
 abbrev pub Joined : ℕ → Row → Type 0
