@@ -3,4 +3,5 @@ pub mod Ends
 pub mod Moves
 pub mod Numbers
 pub mod Patterns
-pub mod Pipes
+pub mod PipeLines
+pub mod StepLines

@@ -5,5 +5,7 @@ pub mod lines;
 pub mod reader;
 pub mod refusal;
 pub mod refusals;
+pub mod schedule;
 pub mod setting;
 pub mod sheet;
+pub mod steps;

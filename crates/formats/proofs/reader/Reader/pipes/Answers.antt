@@ -13,7 +13,7 @@ use Rattle.formats.specs.Lines.{after-line}
 use Rattle.formats.specs.Readers.{rest, Went}
 use Rattle.formats.specs.Sheets.{pipes-in, Dry-rows}
 use Rattle.formats.proofs.Moves.{went-none, went-more}
-use Rattle.formats.proofs.Pipes.{pipes-more, pipes-miss, pipes-all, row-more}
+use Rattle.formats.proofs.PipeLines.{pipes-more, pipes-miss, pipes-all, row-more}
 use Rattle.formats.proofs.reader.Reader.pipes.Needs as need
 
 pub loop-k-holds : need.loop-k-holds
