@@ -1,3 +1,4 @@
 pub mod Totals
 pub mod Words
 pub mod Balance
+pub mod Enumerated
