@@ -2,3 +2,4 @@ pub mod Totals
 pub mod Words
 pub mod Balance
 pub mod Enumerated
+pub mod Pushing

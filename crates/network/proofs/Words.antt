@@ -1,6 +1,6 @@
 -- Words as sets of junctions: their bits, and folds of `bitAnd` and `bitOr`.
 use mathlib.Core.Path.{_≡_, refl, sym, ap, _∙_}
-use mathlib.Core.Bool.{true, false, _&&_, _||_}
+use mathlib.Core.Bool.{Bool, true, false, _&&_, _||_}
 use mathlib.Core.List.{List, [], _∷_}
 use mathlib.Core.Logic.{_≢_, _⊎_, inl, inr}
 use Prim.Native.Nat.{ℕ, zero, suc, _+_, _-_, _/_, _%_, _^_, _≤_, _<_, min, max}
@@ -116,3 +116,9 @@ or-fold-some P k i (s ∷ ss) e h = elim (or-fold-some P k (bitOr i s) ss e (h .
   | inl b ↦ elim (or-cases (has i k) (has s k) (sym (has-or i s k) ∙ b)) [ inl x ↦ inl x | inr y ↦ inr (s, h .0, y) ]
   | inr r ↦ inr r
 ]
+
+-- two tests that pass alike are equal
+pub same-test : (a b : Bool) → (a ≡ true → b ≡ true) → (b ≡ true → a ≡ true) → a ≡ b
+same-test true b f g = sym (f refl)
+same-test false true f g = g refl
+same-test false false f g = refl
