@@ -3,3 +3,4 @@ pub mod Words
 pub mod Balance
 pub mod Enumerated
 pub mod Pushing
+pub mod Reached

@@ -7,11 +7,11 @@ use Prim.Native.Nat.{ℕ, zero, suc, _+_, _-_, _/_, _%_, _^_, _≤_, _<_, min, m
 use native.Mathlib.Omega.{arith}
 use native.Mathlib.Nat.{mod-eq-of-lt, div-eq-of-lt}
 use lib.Dec.{eqb}
-use lib.Bits.{bitAnd, bitOr, and-step, or-step}
+use lib.Bits.{bitAnd, bitOr, and-step, or-step, or-add-and}
 use lib.Pow.{pow-mono}
 use Rattle.std.specs.shelf.Lists.{All, folded}
-use Rattle.std.proofs.shelf.Bits.{and-shr, or-shr, and-mask, shr-shr, pow-below, or-lt, and-le-l}
-use Rattle.std.proofs.shelf.Tests.{and-parts, and-from, or-parts, or-cases, or-from}
+use Rattle.std.proofs.shelf.Bits.{and-shr, or-shr, and-mask, shr-shr, pow-below, or-lt, and-le-l, and-le-r}
+use Rattle.std.proofs.shelf.Tests.{cases-eq, cases-bool, both-ways, and-parts, and-from, or-parts, or-cases, or-from, or-right}
 use Rattle.std.proofs.shelf.Ways.{tells}
 use Rattle.network.specs.Cuts.{has}
 
@@ -122,3 +122,34 @@ pub same-test : (a b : Bool) → (a ≡ true → b ≡ true) → (b ≡ true →
 same-test true b f g = sym (f refl)
 same-test false true f g = g refl
 same-test false false f g = refl
+
+-- a junction more makes a larger word
+pub or-more : (s k : ℕ) → has s k ≡ false → s < bitOr s (2 ^ k)
+or-more s k e = elim (cases-eq s (bitOr s (2 ^ k))) [
+  | inl q ↦ absurd (both-ways (has s k) e (ap (λ x. has x k) q ∙ has-or s (2 ^ k) k ∙ or-right _ _ (has-power k)))
+  | inr d ↦ omega (arith, or-add-and s (2 ^ k), and-le-r s (2 ^ k))
+]
+
+or-false : (a : Bool) → (a || false) ≡ a
+or-false true = refl
+or-false false = refl
+
+-- the word of the junctions that pass a test
+pub word-of : (n : ℕ) (test : ℕ → Bool) → (s : ℕ) × (s < 2 ^ n) × ((k : ℕ) → k < n → has s k ≡ test k)
+word-of zero test = (0, omega arith, λ k l. absurd (omega arith))
+word-of (suc n) test =
+    let r = word-of n test in
+    elim (cases-bool (test n)) [
+      | inl q ↦ (
+        bitOr (r .0) (2 ^ n),
+        or-lt (suc n) (r .0) (2 ^ n) (omega (arith, r .1)) (pow-below n (suc n) (omega arith)),
+        λ k l. has-or (r .0) (2 ^ n) k ∙ elim (cases-eq k n) [
+          | inl e ↦ rw e (or-right _ _ (has-power n) ∙ sym q)
+          | inr d ↦ rw (has-other n k (λ e. d (sym e))) (or-false _ ∙ r .2 k (omega arith))
+        ],
+      )
+      | inr q ↦ (r .0, omega (arith, r .1), λ k l. elim (cases-eq k n) [
+        | inl e ↦ rw e (has-beyond n (r .0) n (r .1) (omega arith) ∙ sym q)
+        | inr d ↦ r .2 k (omega arith)
+      ])
+    ]
