@@ -4,3 +4,4 @@ pub mod Balance
 pub mod Enumerated
 pub mod Pushing
 pub mod Reached
+pub mod Greatest

@@ -5,7 +5,7 @@ use mathlib.Core.Logic.{_≢_}
 use Prim.Native.Nat.{ℕ, _≤_, _<_}
 use lib.Dec.{eqb}
 use lib.IntN.{ℤ, pos, _-ℤ_}
-use lib.ListN.{length}
+use lib.ListN.{length, replicate}
 use lib.Signed.{_≤ℤ_}
 use Rattle.network.specs.Network.{Network}
 use Rattle.network.specs.Residual.{pipe, size, carried}
@@ -31,6 +31,10 @@ Conserves w f = (j : ℕ) → j < w .junctions → j ≢ w .pump → j ≢ w .ou
 pub record Flow (w : Network) (f : List ℕ) : Type 0 where
   pub within : Within w f
   pub conserves : Conserves w f
+
+-- dry pipes: no pipe carries anything
+abbrev pub dry : Network → List ℕ
+dry w = replicate (size w) 0
 
 -- the outflow of the pump less its inflow; it may be negative
 abbrev pub value : Network → List ℕ → ℤ
