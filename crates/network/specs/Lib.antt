@@ -1,6 +1,15 @@
+pub mod Changes
+pub mod Cuts
+pub mod Flows
+pub mod Governing
 pub mod Network
 pub mod Paths
 pub mod Pipes
+pub mod Pushing
+pub mod Reaches
+pub mod Repair
+pub mod Reports
 pub mod Residual
 pub mod Rows
+pub mod Sums
 pub mod Valves
