@@ -79,6 +79,7 @@ front-step a s k c e =
     take-set s (k - 1) c ∙ sym (take-take (k - 1) k s (omega arith)) ∙ ap (take (k - 1)) e ∙ take-take (k - 1) k a (omega arith)
 
 pub put-done : (a s : List ℕ) (from to k v r : ℕ) → from < to → to ≤ length a → k ≡ from → take k s ≡ take k (set a (to - 1) (48 + v % 10)) → padded (k - from) r ++ drop k s ≡ padded (to - 1 - from) (v / 10) ++ drop (to - 1) (set a (to - 1) (48 + v % 10)) → s ≡ take from a ++ (written (to - from) v ++ drop to a)
+unfolding written
 put-done a s from to k v r h l e f b =
     let d = 48 + v % 10 in
     let w : to - from ≡ suc (to - 1 - from) = omega arith in
@@ -86,14 +87,15 @@ put-done a s from to k v r h l e f b =
     let front : take k s ≡ take from a = f ∙ ap (λ (n : ℕ). take n (set a (to - 1) d)) e ∙ take-set-le from a (to - 1) d (omega arith) in
     let j : to - 1 + 1 ≡ to = omega arith in
     let back : drop k s ≡ written (to - from) v ++ drop to a =
-        ap (λ (n : ℕ). padded n r ++ drop k s) (sym z) ∙ b ∙ ap (λ (x : List ℕ). padded (to - 1 - from) (v / 10) ++ x) (drop-set a (to - 1) d (omega arith) ∙ ap (λ (n : ℕ). d ∷ drop n a) j) ∙ sym (append-assoc (padded (to - 1 - from) (v / 10)) (d ∷ []) (drop to a)) ∙ ap (λ (n : ℕ). written n v ++ drop to a) (sym w) in
+    ap (λ (n : ℕ). padded n r ++ drop k s) (sym z) ∙ b ∙ ap (λ (x : List ℕ). padded (to - 1 - from) (v / 10) ++ x) (drop-set a (to - 1) d (omega arith) ∙ ap (λ (n : ℕ). d ∷ drop n a) j) ∙ sym (append-assoc (padded (to - 1 - from) (v / 10)) (d ∷ []) (drop to a)) ∙ ap (λ (n : ℕ). written n v ++ drop to a) (sym w) in
     sym (take-append-drop k s) ∙ (λ i. front i ++ back i)
 
 length-padded : (w n : ℕ) → length (padded w n) ≡ w
 length-padded zero n = refl
 length-padded (suc w) n = length-append (padded w (n / 10)) (digit-or-blank n ∷ []) ∙ omega (arith, length-padded w (n / 10))
 
-length-written : (w n : ℕ) → length (written w n) ≡ w
+pub length-written : (w n : ℕ) → length (written w n) ≡ w
+unfolding written
 length-written zero n = refl
 length-written (suc w) n = length-append (padded w (n / 10)) ((48 + n % 10) ∷ []) ∙ omega (arith, length-padded w (n / 10))
 
@@ -139,10 +141,12 @@ ending zero k = refl
 ending (suc v) k = shown (suc v) (suc v / 10) [] refl (λ e. omega arith) k
 
 pub read-back : (w v : ℕ) → 0 < w → v < 10 ^ w → v < 4294967296 → number-in (written w v) ≡ Some v
+unfolding written
 read-back zero v p h k = absurd (omega arith)
 read-back (suc w) v p h k = places w (v / 10) ((48 + v % 10) ∷ []) (tenth w v h) (omega (arith, div-add-mod' v 10)) ∙ ending v k
 
 pub back : (a last : List ℕ) (from to v : ℕ) → from < to → to ≤ length a → v < 10 ^ (to - from) → v < 4294967296 → last ≡ take from a ++ (written (to - from) v ++ drop to a) → number-in (take (to - from) (drop from last)) ≡ Some v
+unfolding written
 back a last from to v h l f k e =
     let p : drop from last ≡ written (to - from) v ++ drop to a = ap (drop from) e ∙ drop-at (take from a) (written (to - from) v ++ drop to a) from (length-take-le from a (omega arith)) in
     let q : take (to - from) (drop from last) ≡ written (to - from) v = ap (take (to - from)) p ∙ take-at (written (to - from) v) (drop to a) (to - from) (length-written (to - from) v) in

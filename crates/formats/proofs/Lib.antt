@@ -4,4 +4,6 @@ pub mod Moves
 pub mod Numbers
 pub mod Patterns
 pub mod PipeLines
+pub mod PageLines
+pub mod Puts
 pub mod StepLines

@@ -45,15 +45,15 @@ pub and-err : {A B : Type 0} (r : Result A Refusal) (d : Refusal) (f : A → Res
 and-err r d f e = ap (λ q. and-then q f) (sym e)
 
 pub header-same : (most i : ℕ) (bs : List ℕ) (j p s t : ℕ) → Ok j ≡ number-at i 0 2 most bs → Ok p ≡ number-at i 1 0 512 bs → Ok s ≡ number-at i 2 0 (j - 1) bs → Ok t ≡ number-at i 3 0 (j - 1) bs
-  → s ≡ t → Err (SameEnds i) ≡ header most i bs
+    → s ≡ t → Err (SameEnds i) ≡ header most i bs
 header-same most i bs j p s t e₁ e₂ e₃ e₄ e =
     let b : eqb s t ≡ true = grind (arith, tells) in
     sym (and-ok _ j _ e₁ ∙ and-ok _ p _ e₂ ∙ and-ok _ s _ e₃ ∙ and-ok _ t _ e₄
-      ∙ ap (λ (x : Bool). cond {A = Result Header Refusal} x (Err (SameEnds i)) (Ok (record { junctions = j; pipes = p; pump = s; outlet = t }))) b)
+    ∙ ap (λ (x : Bool). cond {A = Result Header Refusal} x (Err (SameEnds i)) (Ok (record { junctions = j; pipes = p; pump = s; outlet = t }))) b)
 
 pub pipe-same : (n i : ℕ) (bs : List ℕ) (a b l : ℕ) (v : Valve) → Ok a ≡ number-at i 0 0 (n - 1) bs → Ok b ≡ number-at i 1 0 (n - 1) bs → Ok l ≡ number-at i 2 1 60000 bs → Ok v ≡ valve-at i bs
-  → a ≡ b → pipe-in n i bs ≡ Err (SameEnds i)
+    → a ≡ b → pipe-in n i bs ≡ Err (SameEnds i)
 pipe-same n i bs a b l v e₁ e₂ e₃ e₄ e =
     let t : eqb a b ≡ true = grind (arith, tells) in
     and-ok _ a _ e₁ ∙ and-ok _ b _ e₂ ∙ and-ok _ l _ e₃ ∙ and-ok _ v _ e₄
-      ∙ ap (λ (x : Bool). cond {A = Result Pipe Refusal} x (Err (SameEnds i)) (Ok (record { from = a; to = b; limit = l; valve = v }))) t
+    ∙ ap (λ (x : Bool). cond {A = Result Pipe Refusal} x (Err (SameEnds i)) (Ok (record { from = a; to = b; limit = l; valve = v }))) t

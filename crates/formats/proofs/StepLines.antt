@@ -45,7 +45,7 @@ module _ (i : ℕ) (bs ls : List ℕ) (m : ℕ) (minutes : Ok m ≡ number-at i 
   step-bad d e = let w = wrong i d (is-pattern ls) e in by false (w .0) ∙ ap err (w .1)
 
   pub step-good : 1 ≤ m → m ≤ 1440 → 9 ≤ length bs → Ok tt ≡ cond {A = Result (Unit {0}) Refusal} (is-pattern ls) (Ok tt) (Err (WrongLetter i))
-    → (step-in i bs ≡ Ok (record { minutes = m; letters = ls })) × Sound-step (length bs - 9) (record { minutes = m; letters = ls })
+      → (step-in i bs ≡ Ok (record { minutes = m; letters = ls })) × Sound-step (length bs - 9) (record { minutes = m; letters = ls })
   step-good some few long e =
       let p = right i (is-pattern ls) e in
       (by true p, record { some = some; few = few; long = ap length cut ∙ length-drop 9 bs; patterned = p })

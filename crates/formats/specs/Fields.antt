@@ -34,6 +34,6 @@ padded zero n = []
 padded (suc w) n = padded w (n / 10) ++ digit-or-blank n ∷ []
 
 -- n in w columns, right-justified; 0 is written as the digit
-abbrev pub written : ℕ → ℕ → List ℕ
+unfoldable pub written : ℕ → ℕ → List ℕ
 written zero n = []
 written (suc w) n = padded w (n / 10) ++ (48 + n % 10) ∷ []

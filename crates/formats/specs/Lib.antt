@@ -1,7 +1,9 @@
 pub mod Fields
 pub mod Letters
 pub mod Lines
+pub mod Pages
 pub mod Readers
 pub mod Refusals
 pub mod Schedules
 pub mod Sheets
+pub mod Spaces

@@ -1,9 +1,9 @@
 ghost use mathlib.Core.Path.{_≡_};
-ghost use mathlib.Core.List.{_++_};
 ghost use Prim.Native.Nat.{ℕ, _-_, _<_, _≤_};
-ghost use lib.ListN.{length, take, drop};
+ghost use lib.ListN.{length, drop};
 ghost use Rattle.std.specs.declared.option.Option.the-variants.{Some, None};
 ghost use Rattle.formats.specs.Fields.{digits-from, number-in, written};
+ghost use Rattle.formats.specs.Spaces.{put-at};
 
 const BLANK: u8 = b' ';
 
@@ -51,14 +51,18 @@ pub fn read_number(field: &[u8]) -> Option<u32>
 pub fn put_number(space: &mut [u8], from: usize, to: usize, value: u64)
     requires { ⌜ from < to ⌝ }
     requires { ⌜ to ≤ length (now space) ⌝ }
-    ensures { λ _. ⌜ now (space .exit) ≡ take from (now (space .entry)) ++ (written (to - from) value ++ drop to (now (space .entry))) ⌝ }
+    ensures { λ _. ⌜ now (space .exit) ≡ put-at from (written (to - from) value) (now (space .entry)) ⌝ }
 {
     let mut k = to - 1;
     space[k] = b'0' + (value % 10) as u8;
     let mut rest = value / 10;
     while k > from {
         k -= 1;
-        space[k] = if rest == 0 { BLANK } else { b'0' + (rest % 10) as u8 };
+        space[k] = if rest == 0 {
+            BLANK
+        } else {
+            b'0' + (rest % 10) as u8
+        };
         rest /= 10;
     }
 }

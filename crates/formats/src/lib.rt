@@ -2,6 +2,7 @@ pub mod fields;
 pub mod header;
 pub mod letters;
 pub mod lines;
+pub mod page;
 pub mod reader;
 pub mod refusal;
 pub mod refusals;

@@ -31,16 +31,22 @@ impl<'a> Reader<'a> {
     pub fn new(text: &'a [u8]) -> Reader<'a>
         ensures { λ r. ⌜ (now (r .text) ≡ now (text .entry)) × (r .at ≡ 0) × (r .lines ≡ 0) ⌝ }
     {
-        Reader { text, at: 0, lines: 0 }
+        Reader {
+            text,
+            at: 0,
+            lines: 0,
+        }
     }
 
     // The next line, as a part of the text; None where no line feed is left.
     pub fn next_line(&mut self) -> Option<Line<'a>>
-        ensures { λ r. ⌜ elim r [ None ↦ (ended (rest (now (self .entry))) ≡ false) × (now (self .exit) ≡ now (self .entry))
+        ensures { λ r. ⌜ elim r [
+          | None ↦ (ended (rest (now (self .entry))) ≡ false) × (now (self .exit) ≡ now (self .entry))
           | Some l ↦ (ended (rest (now (self .entry))) ≡ true)
-            × (now (l .bytes) ≡ first-line (rest (now (self .entry))))
-            × (l .number ≡ now (self .entry) .lines + 1)
-            × Advanced (now (self .entry)) (now (self .exit)) ] ⌝ }
+              × (now (l .bytes) ≡ first-line (rest (now (self .entry))))
+              × (l .number ≡ now (self .entry) .lines + 1)
+              × Advanced (now (self .entry)) (now (self .exit))
+        ] ⌝ }
     {
         let end = line_end(self.text, self.at);
         if end == self.text.len() {

@@ -41,11 +41,13 @@ impl<'a> Reader<'a> {
     // The next line, if it is the one that is due.
     pub fn due(&mut self, kind: &[u8; 4], columns: usize) -> Result<Line<'a>, Refusal>
         requires { ⌜ 4 ≤ columns ⌝ }
-        ensures { λ r. ⌜ elim r [ Ok l ↦ (due (now (kind .entry)) columns (now (self .entry) .lines + 1) (rest (now (self .entry))) ≡ Ok (now (l .bytes)))
-            × (length (now (l .bytes)) ≡ columns)
-            × (l .number ≡ now (self .entry) .lines + 1)
-            × Advanced (now (self .entry)) (now (self .exit))
-          | Err e ↦ due (now (kind .entry)) columns (now (self .entry) .lines + 1) (rest (now (self .entry))) ≡ Err e ] ⌝ }
+        ensures { λ r. ⌜ elim r [
+          | Ok l ↦ (due (now (kind .entry)) columns (now (self .entry) .lines + 1) (rest (now (self .entry))) ≡ Ok (now (l .bytes)))
+              × (length (now (l .bytes)) ≡ columns)
+              × (l .number ≡ now (self .entry) .lines + 1)
+              × Advanced (now (self .entry)) (now (self .exit))
+          | Err e ↦ due (now (kind .entry)) columns (now (self .entry) .lines + 1) (rest (now (self .entry))) ≡ Err e
+        ] ⌝ }
     {
         let number = self.lines + 1;
         let Some(line) = self.next_line() else {
@@ -54,7 +56,11 @@ impl<'a> Reader<'a> {
         if line.bytes.len() != columns {
             return Err(Refusal::BadLine(number));
         }
-        if is_kind(line.bytes, kind) { Ok(line) } else { Err(Refusal::WrongKind(number)) }
+        if is_kind(line.bytes, kind) {
+            Ok(line)
+        } else {
+            Err(Refusal::WrongKind(number))
+        }
     }
 }
 
@@ -70,7 +76,11 @@ impl Line<'_> {
             return Err(Refusal::BadNumber(self.number));
         };
         let n = n as usize;
-        if n < least || n > most { Err(Refusal::OutOfRange(self.number)) } else { Ok(n) }
+        if n < least || n > most {
+            Err(Refusal::OutOfRange(self.number))
+        } else {
+            Ok(n)
+        }
     }
 
     fn header(&self, most: usize) -> Result<Header, Refusal>
@@ -85,7 +95,12 @@ impl Line<'_> {
         if pump == outlet {
             return Err(Refusal::SameEnds(self.number));
         }
-        Ok(Header { junctions, pipes, pump, outlet })
+        Ok(Header {
+            junctions,
+            pipes,
+            pump,
+            outlet,
+        })
     }
 
     fn valve(&self) -> Result<Valve, Refusal>
@@ -105,8 +120,10 @@ impl Line<'_> {
     fn pipe(&self, junctions: usize) -> Result<Row, Refusal>
         requires { ⌜ length (now (now self .bytes)) ≡ 24 ⌝ }
         requires { ⌜ 1 ≤ junctions ⌝ }
-        ensures { λ r. ⌜ elim r [ Ok row ↦ (pipe-in junctions (now (self .entry) .number) (now (now (self .entry) .bytes)) ≡ Ok (pipe-of row)) × (row .flow ≡ 0) × Joined junctions row × Limited row
-          | Err e ↦ pipe-in junctions (now (self .entry) .number) (now (now (self .entry) .bytes)) ≡ Err e ] ⌝ }
+        ensures { λ r. ⌜ elim r [
+          | Ok row ↦ (pipe-in junctions (now (self .entry) .number) (now (now (self .entry) .bytes)) ≡ Ok (pipe-of row)) × (row .flow ≡ 0) × Joined junctions row × Limited row
+          | Err e ↦ pipe-in junctions (now (self .entry) .number) (now (now (self .entry) .bytes)) ≡ Err e
+        ] ⌝ }
     {
         let from = self.field(0, 0, junctions - 1)?;
         let to = self.field(1, 0, junctions - 1)?;
@@ -115,19 +132,33 @@ impl Line<'_> {
         if from == to {
             return Err(Refusal::SameEnds(self.number));
         }
-        Ok(Row { from, to, limit: limit as u32, flow: 0, valve })
+        Ok(Row {
+            from,
+            to,
+            limit: limit as u32,
+            flow: 0,
+            valve,
+        })
     }
 }
 
-const NO_ROW: Row = Row { from: 0, to: 0, limit: 0, flow: 0, valve: Valve::Closed };
+const NO_ROW: Row = Row {
+    from: 0,
+    to: 0,
+    limit: 0,
+    flow: 0,
+    valve: Valve::Closed,
+};
 
 impl Reader<'_> {
     fn next_header(&mut self, most: usize) -> Result<Header, Refusal>
         requires { ⌜ 2 ≤ most ⌝ }
-        ensures { λ r. ⌜ elim r [ Ok h ↦ (header-in most (now (self .entry) .lines + 1) (rest (now (self .entry))) ≡ Ok h)
-            × Sound-header most h
-            × Advanced (now (self .entry)) (now (self .exit))
-          | Err e ↦ header-in most (now (self .entry) .lines + 1) (rest (now (self .entry))) ≡ Err e ] ⌝ }
+        ensures { λ r. ⌜ elim r [
+          | Ok h ↦ (header-in most (now (self .entry) .lines + 1) (rest (now (self .entry))) ≡ Ok h)
+              × Sound-header most h
+              × Advanced (now (self .entry)) (now (self .exit))
+          | Err e ↦ header-in most (now (self .entry) .lines + 1) (rest (now (self .entry))) ≡ Err e
+        ] ⌝ }
     {
         let line = self.due(b"NETW", SHEET_COLUMNS)?;
         line.header(most)
@@ -135,10 +166,12 @@ impl Reader<'_> {
 
     fn next_pipe(&mut self, junctions: usize) -> Result<Row, Refusal>
         requires { ⌜ 1 ≤ junctions ⌝ }
-        ensures { λ r. ⌜ elim r [ Ok row ↦ (next-pipe junctions (now (self .entry) .lines + 1) (rest (now (self .entry))) ≡ Ok (pipe-of row))
-            × (row .flow ≡ 0) × Joined junctions row × Limited row
-            × Advanced (now (self .entry)) (now (self .exit))
-          | Err e ↦ next-pipe junctions (now (self .entry) .lines + 1) (rest (now (self .entry))) ≡ Err e ] ⌝ }
+        ensures { λ r. ⌜ elim r [
+          | Ok row ↦ (next-pipe junctions (now (self .entry) .lines + 1) (rest (now (self .entry))) ≡ Ok (pipe-of row))
+              × (row .flow ≡ 0) × Joined junctions row × Limited row
+              × Advanced (now (self .entry)) (now (self .exit))
+          | Err e ↦ next-pipe junctions (now (self .entry) .lines + 1) (rest (now (self .entry))) ≡ Err e
+        ] ⌝ }
     {
         let line = self.due(b"PIPE", SHEET_COLUMNS)?;
         line.pipe(junctions)
@@ -148,10 +181,12 @@ impl Reader<'_> {
     fn pipes(&mut self, junctions: usize, count: usize, rows: &mut [Row]) -> Result<(), Refusal>
         requires some { ⌜ 1 ≤ junctions ⌝ }
         requires held { ⌜ count ≤ length (now rows) ⌝ }
-        ensures { λ r. ⌜ elim r [ Ok u ↦ (pipes-in count junctions (now (self .entry) .lines + 1) (rest (now (self .entry))) [] ≡ Ok (map pipe-of (take count (now (rows .exit))), rest (now (self .exit))))
-            × Dry-rows junctions (now (rows .exit)) count
-            × Went count (now (self .entry)) (now (self .exit))
-          | Err e ↦ pipes-in count junctions (now (self .entry) .lines + 1) (rest (now (self .entry))) [] ≡ Err e ] ⌝ }
+        ensures { λ r. ⌜ elim r [
+          | Ok u ↦ (pipes-in count junctions (now (self .entry) .lines + 1) (rest (now (self .entry))) [] ≡ Ok (map pipe-of (take count (now (rows .exit))), rest (now (self .exit))))
+              × Dry-rows junctions (now (rows .exit)) count
+              × Went count (now (self .entry)) (now (self .exit))
+          | Err e ↦ pipes-in count junctions (now (self .entry) .lines + 1) (rest (now (self .entry))) [] ≡ Err e
+        ] ⌝ }
     {
         for k in 0..count {
             let row = self.next_pipe(junctions)?;
@@ -164,15 +199,28 @@ impl Reader<'_> {
     pub fn sheet(&mut self, most: usize) -> Result<Table, Refusal>
         requires two { ⌜ 2 ≤ most ⌝ }
         requires few { ⌜ most ≤ 64 ⌝ }
-        ensures { λ r. ⌜ elim r [ Ok t ↦ (sheet-in most (now (self .entry) .lines + 1) (rest (now (self .entry))) ≡ Ok (network-of t, rest (now (self .exit))))
-            × (t .junctions ≤ most)
-            × Each Dry (t .rows) (t .count)
-            × Went (1 + t .count) (now (self .entry)) (now (self .exit))
-          | Err e ↦ sheet-in most (now (self .entry) .lines + 1) (rest (now (self .entry))) ≡ Err e ] ⌝ }
+        ensures { λ r. ⌜ elim r [
+          | Ok t ↦ (sheet-in most (now (self .entry) .lines + 1) (rest (now (self .entry))) ≡ Ok (network-of t, rest (now (self .exit))))
+              × (t .junctions ≤ most)
+              × Each Dry (t .rows) (t .count)
+              × Went (1 + t .count) (now (self .entry)) (now (self .exit))
+          | Err e ↦ sheet-in most (now (self .entry) .lines + 1) (rest (now (self .entry))) ≡ Err e
+        ] ⌝ }
     {
-        let Header { junctions, pipes, pump, outlet } = self.next_header(most)?;
+        let Header {
+            junctions,
+            pipes,
+            pump,
+            outlet,
+        } = self.next_header(most)?;
         let mut rows = [NO_ROW; MOST_PIPES];
         self.pipes(junctions, pipes, &mut rows)?;
-        Ok(Table { junctions, pump, outlet, rows, count: pipes })
+        Ok(Table {
+            junctions,
+            pump,
+            outlet,
+            rows,
+            count: pipes,
+        })
     }
 }

@@ -21,8 +21,10 @@ const MOST_MINUTES: usize = 1_440;
 impl<'a> Line<'a> {
     fn step(&self) -> Result<TimedPattern<'a>, Refusal>
         requires { ⌜ 9 ≤ length (now (now self .bytes)) ⌝ }
-        ensures { λ r. ⌜ elim r [ Ok s ↦ (step-in (now (self .entry) .number) (now (now (self .entry) .bytes)) ≡ Ok (timed s)) × Sound-step (length (now (now (self .entry) .bytes)) - 9) (timed s)
-          | Err e ↦ step-in (now (self .entry) .number) (now (now (self .entry) .bytes)) ≡ Err e ] ⌝ }
+        ensures { λ r. ⌜ elim r [
+          | Ok s ↦ (step-in (now (self .entry) .number) (now (now (self .entry) .bytes)) ≡ Ok (timed s)) × Sound-step (length (now (now (self .entry) .bytes)) - 9) (timed s)
+          | Err e ↦ step-in (now (self .entry) .number) (now (now (self .entry) .bytes)) ≡ Err e
+        ] ⌝ }
     {
         let minutes = self.field(0, 1, MOST_MINUTES)?;
         let letters = &self.bytes[COUNT_COLUMNS..];
@@ -34,31 +36,42 @@ impl<'a> Line<'a> {
 impl<'a> Reader<'a> {
     fn next_step(&mut self, pipes: usize) -> Result<TimedPattern<'a>, Refusal>
         requires { ⌜ pipes ≤ 512 ⌝ }
-        ensures { λ r. ⌜ elim r [ Ok s ↦ (next-step pipes (now (self .entry) .lines + 1) (rest (now (self .entry))) ≡ Ok (timed s)) × Sound-step pipes (timed s)
-            × Advanced (now (self .entry)) (now (self .exit))
-          | Err e ↦ next-step pipes (now (self .entry) .lines + 1) (rest (now (self .entry))) ≡ Err e ] ⌝ }
+        ensures { λ r. ⌜ elim r [
+          | Ok s ↦ (next-step pipes (now (self .entry) .lines + 1) (rest (now (self .entry))) ≡ Ok (timed s)) × Sound-step pipes (timed s)
+              × Advanced (now (self .entry)) (now (self .exit))
+          | Err e ↦ next-step pipes (now (self .entry) .lines + 1) (rest (now (self .entry))) ≡ Err e
+        ] ⌝ }
     {
         let line = self.due(b"STEP", COUNT_COLUMNS + pipes)?;
         line.step()
     }
 
     fn next_count(&mut self) -> Result<usize, Refusal>
-        ensures { λ r. ⌜ elim r [ Ok n ↦ (next-count (now (self .entry) .lines + 1) (rest (now (self .entry))) ≡ Ok n) × (1 ≤ n) × (n ≤ 100)
-            × Advanced (now (self .entry)) (now (self .exit))
-          | Err e ↦ next-count (now (self .entry) .lines + 1) (rest (now (self .entry))) ≡ Err e ] ⌝ }
+        ensures { λ r. ⌜ elim r [
+          | Ok n ↦ (next-count (now (self .entry) .lines + 1) (rest (now (self .entry))) ≡ Ok n) × (1 ≤ n) × (n ≤ 100)
+              × Advanced (now (self .entry)) (now (self .exit))
+          | Err e ↦ next-count (now (self .entry) .lines + 1) (rest (now (self .entry))) ≡ Err e
+        ] ⌝ }
     {
         let line = self.due(b"SCHD", COUNT_COLUMNS)?;
         line.field(0, 1, MOST_STEPS)
     }
 
     // The step lines of a schedule, into the first elements.
-    fn steps(&mut self, pipes: usize, count: usize, steps: &mut [TimedPattern<'a>]) -> Result<(), Refusal>
+    fn steps(
+        &mut self,
+        pipes: usize,
+        count: usize,
+        steps: &mut [TimedPattern<'a>],
+    ) -> Result<(), Refusal>
         requires few { ⌜ pipes ≤ 512 ⌝ }
         requires held { ⌜ count ≤ length (now steps) ⌝ }
-        ensures { λ r. ⌜ elim r [ Ok u ↦ (steps-in count pipes (now (self .entry) .lines + 1) (rest (now (self .entry))) [] ≡ Ok (map timed (take count (now (steps .exit))), rest (now (self .exit))))
-            × All (Sound-step pipes) (map timed (take count (now (steps .exit))))
-            × Went count (now (self .entry)) (now (self .exit))
-          | Err e ↦ steps-in count pipes (now (self .entry) .lines + 1) (rest (now (self .entry))) [] ≡ Err e ] ⌝ }
+        ensures { λ r. ⌜ elim r [
+          | Ok u ↦ (steps-in count pipes (now (self .entry) .lines + 1) (rest (now (self .entry))) [] ≡ Ok (map timed (take count (now (steps .exit))), rest (now (self .exit))))
+              × All (Sound-step pipes) (map timed (take count (now (steps .exit))))
+              × Went count (now (self .entry)) (now (self .exit))
+          | Err e ↦ steps-in count pipes (now (self .entry) .lines + 1) (rest (now (self .entry))) [] ≡ Err e
+        ] ⌝ }
     {
         for k in 0..count {
             let step = self.next_step(pipes)?;
@@ -68,16 +81,26 @@ impl<'a> Reader<'a> {
     }
 
     // A schedule for so many pipes, up to the end of the text: its steps go into the first elements, and the answer is their number.
-    pub fn schedule(&mut self, pipes: usize, steps: &mut [TimedPattern<'a>]) -> Result<usize, Refusal>
+    pub fn schedule(
+        &mut self,
+        pipes: usize,
+        steps: &mut [TimedPattern<'a>],
+    ) -> Result<usize, Refusal>
         requires few { ⌜ pipes ≤ 512 ⌝ }
         requires held { ⌜ 100 ≤ length (now steps) ⌝ }
-        ensures { λ r. ⌜ elim r [ Ok n ↦ (schedule-in pipes (now (self .entry) .lines + 1) (rest (now (self .entry))) ≡ Ok (map timed (take n (now (steps .exit)))))
-            × (1 ≤ n) × (n ≤ 100)
-            × All (Sound-step pipes) (map timed (take n (now (steps .exit))))
-          | Err e ↦ schedule-in pipes (now (self .entry) .lines + 1) (rest (now (self .entry))) ≡ Err e ] ⌝ }
+        ensures { λ r. ⌜ elim r [
+          | Ok n ↦ (schedule-in pipes (now (self .entry) .lines + 1) (rest (now (self .entry))) ≡ Ok (map timed (take n (now (steps .exit)))))
+              × (1 ≤ n) × (n ≤ 100)
+              × All (Sound-step pipes) (map timed (take n (now (steps .exit))))
+          | Err e ↦ schedule-in pipes (now (self .entry) .lines + 1) (rest (now (self .entry))) ≡ Err e
+        ] ⌝ }
     {
         let count = self.next_count()?;
         self.steps(pipes, count, steps)?;
-        if self.at_end() { Ok(count) } else { Err(Refusal::TrailingBytes(self.lines + 1)) }
+        if self.at_end() {
+            Ok(count)
+        } else {
+            Err(Refusal::TrailingBytes(self.lines + 1))
+        }
     }
 }

@@ -13,8 +13,9 @@ use Rattle.network.specs.Rows.{no-row, Each}
 module _ (Rule : Row → Type 0) (rows : List Row) (i : ℕ) (row : Row) (inside : i < length rows) (here : Rule row) where
   put : (k : ℕ) → ((k ≡ i → ⊥) → Rule (getD rows k no-row)) → Rule (getD (set rows i row) k no-row)
   put k there = elim (cases-eq k i) [
-      inl e ↦ subst (λ (j : ℕ). Rule (getD (set rows i row) j no-row)) (sym e) (subst Rule (sym (getD-set-same rows i row no-row inside)) here)
-    | inr n ↦ subst Rule (sym (getD-set-other rows i k row no-row n)) (there n) ]
+    | inl e ↦ subst (λ (j : ℕ). Rule (getD (set rows i row) j no-row)) (sym e) (subst Rule (sym (getD-set-same rows i row no-row inside)) here)
+    | inr n ↦ subst Rule (sym (getD-set-other rows i k row no-row n)) (there n)
+  ]
 
   -- one row more
   pub each-more : Each Rule rows i → Each Rule (set rows i row) (i + 1)

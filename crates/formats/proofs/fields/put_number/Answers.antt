@@ -7,6 +7,7 @@ use lib.ListN.{length}
 use Rattle.std.proofs.shelf.Ways.{tells}
 use Rattle.formats.specs.Fields.{digit-or-blank}
 use Rattle.formats.proofs.Digits.{put-step, front-step, put-done}
+use Rattle.formats.proofs.Puts.{put-written}
 use Rattle.formats.proofs.fields.put_number.Needs as need
 use Rattle.formats.proofs.fields.put_number.Needs.{then-rest-eq0, else-rest-eq0}
 
@@ -19,3 +20,4 @@ loop-k-again c =
 
 pub returns : need.returns
 returns c = put-done (c .args .space .now) (c .loop-k .space) (c .args .from) (c .args .to) (c .loop-k .k) (c .args .value) (c .loop-k .rest) (c .pre .0) (c .pre .1) (omega (arith, c .loop-k .inv .0)) (c .loop-k .inv .2) (c .loop-k .inv .3)
+    ∙ put-written (c .args .space .now) (c .args .from) (c .args .to) (c .args .value) (omega arith)

@@ -12,5 +12,5 @@ returns-then-n-most c =
 pub returns-else-n-most : need.returns-else-n-most
 returns-else-n-most c = record {
   is = inside (c .args .self .now .bytes .now) (c .args .k) _ (c .args .least) (c .args .most) _ (omega arith) (c .in-Some .n) (c .in-Some .ensures tt) (omega arith) (omega arith);
-  within = (omega arith, omega arith)
+  within = (omega arith, omega arith);
 }
