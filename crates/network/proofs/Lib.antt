@@ -5,3 +5,5 @@ pub mod Enumerated
 pub mod Pushing
 pub mod Reached
 pub mod Greatest
+pub mod Changes
+pub mod Governing
