@@ -7,3 +7,4 @@ pub mod Reached
 pub mod Greatest
 pub mod Changes
 pub mod Governing
+pub mod Repair
