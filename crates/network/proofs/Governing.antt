@@ -145,21 +145,33 @@ module _ (w : Network) (wired : Wired w) (k : ℕ) (here : k < size w) where
           ))
 
 module _ (w : Network) (wired : Wired w) where
-  -- a pipe that does not exist neither governs nor can be raised
-  none-beyond : (k : ℕ) → size w ≤ k → Decides (governing w (report-of w) k) (Raises w k)
-  none-beyond k l = (
-    λ e. absurd (false≢true (rw (getD-past (w .pipes) k nowhere l) at e)),
-    λ r.
-        let same : raised w k ≡ w = ap (λ ps. record { junctions = w .junctions; pump = w .pump; outlet = w .outlet; pipes = ps })
-        (set-past (w .pipes) k (with-limit (pipe w k) (pipe w k .limit + 1)) l) in
-        let flow : Flow w (r .0) = subst (λ u. Flow u (r .0)) same (r .1) in
-        let more : value w (r .0) <ℤ value w (r .0) = subst (λ u. value w (r .0) <ℤ value u (r .0)) same (r .2 (r .0) flow) in
-        absurd (omega (arith, ints)),
-  )
+  -- a pipe that does not exist does not govern, and one litre more on it changes nothing
+  module _ (k : ℕ) (beyond : size w ≤ k) where
+    governs-not : governing w (report-of w) k ≡ true → ⊥
+    governs-not e = false≢true (rw (getD-past (w .pipes) k nowhere beyond) at e)
 
-  -- a pipe governs just where one litre more on its limit raises the greatest value
+    raised-same : raised w k ≡ w
+    raised-same = ap (λ ps. record { junctions = w .junctions; pump = w .pump; outlet = w .outlet; pipes = ps })
+        (set-past (w .pipes) k (with-limit (pipe w k) (pipe w k .limit + 1)) beyond)
+
+    raises-not : Raises w k → ⊥
+    raises-not r =
+        let flow : Flow w (r .0) = subst (λ u. Flow u (r .0)) raised-same (r .1) in
+        let more : value w (r .0) <ℤ value w (r .0) = subst (λ u. value w (r .0) <ℤ value u (r .0)) raised-same (r .2 (r .0) flow) in
+        omega (arith, ints)
+
+  -- a pipe governs just where one litre more on its limit raises the greatest value, and just where it raises the least capacity
   pub governs-raises : (k : ℕ) → Decides (governing w (report-of w) k) (Raises w k)
-  governs-raises k = elim (cases-lt k (size w)) [ inl l ↦ governs-here w wired k l | inr m ↦ none-beyond k m ]
+  governs-raises k = elim (cases-lt k (size w)) [
+    | inl l ↦ governs-here w wired k l
+    | inr m ↦ (λ e. absurd (governs-not k m e), λ r. absurd (raises-not k m r))
+  ]
+
+  pub governs-least : (k : ℕ) → Decides (governing w (report-of w) k) (least-capacity w < least-capacity (raised w k))
+  governs-least k = elim (cases-lt k (size w)) [
+    | inl l ↦ governs-more w wired k l
+    | inr m ↦ (λ e. absurd (governs-not k m e), λ l. absurd (omega (arith, ap least-capacity (raised-same k m), l)))
+  ]
 
   -- near and far agree just where there is one minimum cut
   pub one-minimum : (report-of w .near ≡ report-of w .far) ↔ OneMinimum w

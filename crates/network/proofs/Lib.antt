@@ -8,3 +8,4 @@ pub mod Greatest
 pub mod Changes
 pub mod Governing
 pub mod Repair
+pub mod Gathered

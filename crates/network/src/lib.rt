@@ -4,4 +4,5 @@ pub mod report;
 pub mod row;
 pub mod step;
 pub mod table;
+pub mod theorems;
 pub mod valve;
