@@ -200,3 +200,10 @@ module _ (w : Network) (wired : Wired w) (f : List ℕ) (g : Greatest w f) where
 
   pub greatest-far : Apart w f (w .outlet) (report-of w .far)
   greatest-far = rw (far-is w wired f (g .flow) greatest-apart _ _ near-set far-set) far-set
+
+-- and a flow that no path augments is greatest
+pub path-greatest : (w : Network) → Wired w → (f : List ℕ) → Flow w f → ((ss : List Step) → Path w f (w .pump) ss (w .outlet) → ⊥) → Greatest w f
+path-greatest w wired f h none = apart-greatest w wired f h apart _ _ (is-reached w wired f (w .pump) (wired .pump-in)) (is-apart w wired f (w .outlet) (wired .outlet-in))
+  where
+    apart : Reaches w f (w .pump) (w .outlet) → ⊥
+    apart r = let p = reaches-path w wired f (w .pump) (wired .pump-in) (w .outlet) r in none (p .0) (p .1)

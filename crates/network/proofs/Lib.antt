@@ -6,3 +6,7 @@ pub mod Enumerated
 pub mod Pushing
 pub mod Reached
 pub mod Greatest
+pub mod Changes
+pub mod Governing
+pub mod Repair
+pub mod Gathered

@@ -1,3 +1,4 @@
+pub mod Cases
 pub mod Changes
 pub mod Cuts
 pub mod Flows
@@ -12,4 +13,5 @@ pub mod Reports
 pub mod Residual
 pub mod Rows
 pub mod Sums
+pub mod Theorems
 pub mod Valves

@@ -5,4 +5,5 @@ pub mod row;
 pub mod sets;
 pub mod step;
 pub mod table;
+pub mod theorems;
 pub mod valve;

@@ -1,0 +1,5 @@
+use Rattle.network.proofs.Governing.{same-report}
+use Rattle.network.proofs.theorems.equal_reports.Needs as need
+
+pub returns : need.returns
+returns c = same-report

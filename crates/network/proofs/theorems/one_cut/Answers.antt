@@ -1,0 +1,5 @@
+use Rattle.network.proofs.Governing.{one-minimum}
+use Rattle.network.proofs.theorems.one_cut.Needs as need
+
+pub returns : need.returns
+returns c = one-minimum
