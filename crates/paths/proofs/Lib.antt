@@ -1,0 +1,2 @@
+pub mod FewRange
+pub mod Tables
