@@ -62,6 +62,10 @@ fn improve<M: PathMetric>(
 ) -> bool
     requires inside { ⌜ from < length (now labels) ⌝ }
     requires onto { ⌜ to < length (now labels) ⌝ }
+    requires light { ⌜ amount ≤ 60000 ⌝ }
+    requires known { ⌜ (suc (steps-at (now labels) from) < length (now labels) → InRange start none extended 62 (length-at means none (now labels) from)) ⌝ }
+    requires told { ⌜ InRange start none extended 63 (length-at means none (now labels) to) ⌝ }
+    ensures { λ r. ⌜ Improves means good none extended (now (labels .entry)) from to amount step (now (labels .exit)) r ⌝ }
 {
     let label = labels[from];
     if label.steps >= labels.len() - 1 {
@@ -85,6 +89,9 @@ fn relax<M: PathMetric>(table: &Table, source: usize, step: Step, labels: &mut [
     requires wide { ⌜ length (now labels) ≡ now table .junctions ⌝ }
     requires source { ⌜ source < now table .junctions ⌝ }
     requires inside { ⌜ step .pipe < now table .count ⌝ }
+    requires kept { ⌜ Kept (network-of (now table)) (flow-of (now table)) source means good start none extended (now labels) ⌝ }
+    ensures follows { λ r. ⌜ Follows (network-of (now (table .entry))) (flow-of (now (table .entry))) source means good start none extended (now (labels .entry)) (now (labels .exit)) r ⌝ }
+    ensures relaxed { λ _. ⌜ Relaxed (network-of (now (table .entry))) (flow-of (now (table .entry))) means good none extended (now (labels .entry)) (now (labels .exit)) step ⌝ }
 {
     let row = table.rows[step.pipe];
     let amount = weight_of(&row, step.direction);
@@ -110,8 +117,12 @@ fn relax_pipe<M: PathMetric>(
     requires wide { ⌜ length (now labels) ≡ now table .junctions ⌝ }
     requires source { ⌜ source < now table .junctions ⌝ }
     requires inside { ⌜ pipe < now table .count ⌝ }
+    requires kept { ⌜ Kept (network-of (now table)) (flow-of (now table)) source means good start none extended (now labels) ⌝ }
+    ensures follows { λ r. ⌜ Follows (network-of (now (table .entry))) (flow-of (now (table .entry))) source means good start none extended (now (labels .entry)) (now (labels .exit)) r ⌝ }
+    ensures done { λ _. ⌜ Done (network-of (now (table .entry))) (flow-of (now (table .entry))) means good none extended (now (labels .entry)) (now (labels .exit)) (λ j. j ≡ pipe) ⌝ }
 {
-    match table.rows[pipe].valve {
+    let valve = table.rows[pipe].valve;
+    match valve {
         Valve::Closed => false,
         Valve::Open => {
             let along = relax(
@@ -141,6 +152,9 @@ fn relax_pipe<M: PathMetric>(
 fn sweep<M: PathMetric>(table: &Table, source: usize, labels: &mut [Label<M>]) -> bool
     requires wide { ⌜ length (now labels) ≡ now table .junctions ⌝ }
     requires source { ⌜ source < now table .junctions ⌝ }
+    requires kept { ⌜ Kept (network-of (now table)) (flow-of (now table)) source means good start none extended (now labels) ⌝ }
+    ensures follows { λ r. ⌜ Follows (network-of (now (table .entry))) (flow-of (now (table .entry))) source means good start none extended (now (labels .entry)) (now (labels .exit)) r ⌝ }
+    ensures done { λ _. ⌜ Done (network-of (now (table .entry))) (flow-of (now (table .entry))) means good none extended (now (labels .entry)) (now (labels .exit)) (λ j. j < now (table .entry) .count) ⌝ }
 {
     let mut changed = false;
     for pipe in 0..table.count {
@@ -153,6 +167,7 @@ fn sweep<M: PathMetric>(table: &Table, source: usize, labels: &mut [Label<M>]) -
 // Labels the source with the path of no pipe, and no other junction.
 fn reset<M: PathMetric>(labels: &mut [Label<M>], source: usize)
     requires { ⌜ source < length (now labels) ⌝ }
+    ensures { λ _. ⌜ Blank means start none source (now (labels .exit)) ⌝ }
 {
     let blank = Label {
         length: M::no_way(),
@@ -173,6 +188,10 @@ fn reset<M: PathMetric>(labels: &mut [Label<M>], source: usize)
 fn settle<M: PathMetric>(table: &Table, source: usize, labels: &mut [Label<M>])
     requires wide { ⌜ length (now labels) ≡ now table .junctions ⌝ }
     requires source { ⌜ source < now table .junctions ⌝ }
+    requires kept { ⌜ Kept (network-of (now table)) (flow-of (now table)) source means good start none extended (now labels) ⌝ }
+    requires begun { ⌜ Within (network-of (now table)) (flow-of (now table)) source means good start none extended 0 (now labels) ⌝ }
+    ensures kept { λ _. ⌜ Kept (network-of (now (table .entry))) (flow-of (now (table .entry))) source means good start none extended (now (labels .exit)) ⌝ }
+    ensures best { λ _. ⌜ Best (network-of (now (table .entry))) (flow-of (now (table .entry))) source means good start none extended (now (labels .exit)) ⌝ }
 {
     for round in 1..table.junctions {
         if !sweep(table, source, labels) {
@@ -191,6 +210,7 @@ fn search<M: PathMetric>(
     requires wide { ⌜ length (now labels) ≡ now table .junctions ⌝ }
     requires source { ⌜ source < now table .junctions ⌝ }
     requires goal { ⌜ goal < now table .junctions ⌝ }
+    ensures { λ r. ⌜ Answer (network-of (now (table .entry))) (flow-of (now (table .entry))) source goal means good start extended (now (labels .exit)) r ⌝ }
 {
     reset(labels, source);
     settle(table, source, labels);
@@ -212,6 +232,8 @@ pub fn best_path<M: PathMetric>(
     requires source { ⌜ source < now table .junctions ⌝ }
     requires goal { ⌜ goal < now table .junctions ⌝ }
     requires places { ⌜ now table .junctions ≤ length (now labels) ⌝ }
+    ensures answer { λ r. ⌜ Answer (network-of (now (table .entry))) (flow-of (now (table .entry))) source goal means good start extended (now (labels .exit)) r ⌝ }
+    ensures beyond { λ _. ⌜ drop (now (table .entry) .junctions) (now (labels .exit)) ≡ drop (now (table .entry) .junctions) (now (labels .entry)) ⌝ }
 {
     search(table, source, goal, &mut labels[0..table.junctions])
 }
