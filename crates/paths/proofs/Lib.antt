@@ -1,0 +1,10 @@
+pub mod Ends
+pub mod FewRange
+pub mod Labels
+pub mod Parts
+pub mod Pigeonhole
+pub mod Relaxing
+pub mod Rounds
+pub mod Steps
+pub mod Tables
+pub mod Walks

@@ -1,0 +1,5 @@
+pub mod BestPaths
+pub mod Fews
+pub mod Metrics
+pub mod Searches
+pub mod Widths

@@ -1,0 +1,5 @@
+pub mod fewest;
+pub mod label;
+pub mod metric;
+pub mod search;
+pub mod widest;
