@@ -1,0 +1,2 @@
+pub mod Augmentations
+pub mod Chains

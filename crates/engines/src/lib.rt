@@ -1,1 +1,2 @@
+pub mod push;
 pub mod survey;
