@@ -8,3 +8,4 @@ pub mod Rounds
 pub mod Steps
 pub mod Tables
 pub mod Walks
+pub mod WeightFirst

@@ -2,4 +2,5 @@ pub mod BestPaths
 pub mod Fews
 pub mod Metrics
 pub mod Searches
+pub mod WeightFirst
 pub mod Widths

@@ -40,9 +40,9 @@ pub impl PathMetric for Fewest as FewestMetric {
     }
 
     fn at_least(&self, other: &Fewest) -> bool {
-        (other.pipes == u32::MAX)
-            | (self.pipes < other.pipes)
-            | ((self.pipes == other.pipes) & (self.least >= other.least))
+        other.pipes == u32::MAX
+            || self.pipes < other.pipes
+            || (self.pipes == other.pipes && self.least >= other.least)
     }
 
     fn extend(&self, weight: u32) -> Fewest {

@@ -1,5 +1,8 @@
 pub mod fewest;
 pub mod label;
 pub mod metric;
+mod residual;
 pub mod search;
+#[cfg(test)]
+mod tests;
 pub mod widest;

@@ -1,54 +1,19 @@
 ghost use mathlib.Core.Path.{_≡_};
-ghost use mathlib.Core.Bool.{Bool, true, false};
-ghost use Prim.Native.Nat.{ℕ, suc, _-_, _<_, _≤_};
+ghost use Prim.Native.Nat.{ℕ, suc, _<_, _≤_};
 ghost use lib.ListN.{length, drop};
-ghost use Rattle.network.specs.Network.{Network};
-ghost use Rattle.network.specs.Rows.{Sound-flow};
-ghost use Rattle.network.specs.Pipes.{pipe-of, network-of, flow-of};
-ghost use Rattle.network.specs.Residual.{start-by, end-by, weight-by};
-ghost use Rattle.paths.specs.Metrics.{InRange, Laws};
+ghost use Rattle.network.specs.Pipes.{network-of, flow-of};
+ghost use Rattle.paths.specs.Metrics.{InRange};
 ghost use Rattle.paths.specs.BestPaths.{Answer};
 ghost use Rattle.paths.specs.Searches.{length-at, steps-at, Kept, Relaxed, Improves, Follows, Done, Blank, Best, Within};
 use crate::label::Label;
 use crate::metric::PathMetric;
-use network::row::Row;
+use crate::residual::head_of;
+use crate::residual::tail_of;
+use crate::residual::weight_of;
 use network::step::Direction;
 use network::step::Step;
 use network::table::Table;
 use network::valve::Valve;
-
-// Where a step over this pipe begins.
-fn tail_of(row: &Row, direction: Direction) -> usize
-    ensures { λ r. ⌜ r ≡ start-by direction (pipe-of (now (row .entry))) ⌝ }
-{
-    match direction {
-        Direction::Along => row.from,
-        Direction::Against => row.to,
-    }
-}
-
-// Where it ends.
-fn head_of(row: &Row, direction: Direction) -> usize
-    ensures { λ r. ⌜ r ≡ end-by direction (pipe-of (now (row .entry))) ⌝ }
-{
-    match direction {
-        Direction::Along => row.to,
-        Direction::Against => row.from,
-    }
-}
-
-// What it can still carry.
-fn weight_of(row: &Row, direction: Direction) -> u32
-    requires { ⌜ Sound-flow (now row) ⌝ }
-    ensures { λ r. ⌜ r ≡ weight-by direction (pipe-of (now (row .entry))) (now (row .entry) .flow) ⌝ }
-{
-    match (direction, row.valve) {
-        (Direction::Along, Valve::Open) => row.limit - row.flow,
-        (Direction::Along, Valve::Closed) => 0,
-        (Direction::Against, Valve::Open) => row.flow,
-        (Direction::Against, Valve::Closed) => 0,
-    }
-}
 
 // Labels `to` by a step from `from`, if that is strictly better than the label it has, and says whether it was.
 // A path with every junction is not extended: the step would lead back onto it, where no label can improve.
@@ -159,7 +124,7 @@ fn sweep<M: PathMetric>(table: &Table, source: usize, labels: &mut [Label<M>]) -
     let mut changed = false;
     for pipe in 0..table.count {
         let here = relax_pipe(table, source, pipe, labels);
-        changed = changed | here;
+        changed |= here;
     }
     changed
 }
@@ -193,7 +158,7 @@ fn settle<M: PathMetric>(table: &Table, source: usize, labels: &mut [Label<M>])
     ensures kept { λ _. ⌜ Kept (network-of (now (table .entry))) (flow-of (now (table .entry))) source means good start none extended (now (labels .exit)) ⌝ }
     ensures best { λ _. ⌜ Best (network-of (now (table .entry))) (flow-of (now (table .entry))) source means good start none extended (now (labels .exit)) ⌝ }
 {
-    for round in 1..table.junctions {
+    for _round in 1..table.junctions {
         if !sweep(table, source, labels) {
             return;
         }

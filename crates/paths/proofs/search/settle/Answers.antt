@@ -22,7 +22,7 @@ loop-round-again g c =
     let t = c .args .table .now in
     let f = c .sweep .ensures in (
       f .follows .kept,
-      λ qs b h k. within-more (m .means) (m .laws) (sound t) (c .args .source) (c .pre .source) (c .loop-round .labels) (c .sweep .last .labels) (c .sweep .result) (c .loop-round .round - 1) (c .loop-round .inv .0) (f .follows) (λ s i r. f .done s (let e = size-is t in omega arith) r) (c .loop-round .inv .1) qs b h (omega arith),
+      λ qs b h k. within-more (m .means) (m .laws) (sound t) (c .args .source) (c .pre .source) (c .loop-round .labels) (c .sweep .last .labels) (c .sweep .result) (c .loop-round .-round - 1) (c .loop-round .inv .0) (f .follows) (λ s i r. f .done s (let e = size-is t in omega arith) r) (c .loop-round .inv .1) qs b h (omega arith),
     )
 
 pub returns : need.returns
@@ -31,5 +31,5 @@ returns g c =
     let t = c .args .table .now in
     record {
       kept = c .loop-round .inv .0;
-      best = best-all (m .means) (m .laws) (sound t) (c .args .source) (c .pre .source) (c .loop-round .labels) (c .loop-round .round - 1) (omega arith) (c .loop-round .inv .1);
+      best = best-all (m .means) (m .laws) (sound t) (c .args .source) (c .pre .source) (c .loop-round .labels) (c .loop-round .-round - 1) (omega arith) (c .loop-round .inv .1);
     }
