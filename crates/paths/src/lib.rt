@@ -1,7 +1,7 @@
 pub mod fewest;
 pub mod label;
 pub mod metric;
-mod residual;
+pub mod residual;
 pub mod search;
 #[cfg(test)]
 mod tests;
