@@ -1,2 +1,4 @@
 pub mod Chained
 pub mod Pushes
+pub mod Passing
+pub mod Tables

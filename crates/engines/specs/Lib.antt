@@ -1,2 +1,4 @@
 pub mod Augmentations
 pub mod Chains
+pub mod Closures
+pub mod Surveys
