@@ -41,9 +41,9 @@ all-both P Q R f [] p q = tt
 all-both P Q R f (x ∷ xs) p q = (f x (p .0) (q .0), all-both P Q R f xs (p .1) (q .1))
 
 -- a residual step takes c litres more
-record Takes (w : Network) (f : List ℕ) (c : ℕ) (s : Step) : Type 0 where
-  residual : Residual w f s
-  weighs : c ≤ weight w f s
+pub record Takes (w : Network) (f : List ℕ) (c : ℕ) (s : Step) : Type 0 where
+  pub residual : Residual w f s
+  pub weighs : c ≤ weight w f s
 
 -- the steps lead from a to b
 abbrev Leads : Network → ℕ → List Step → ℕ → Type 0
@@ -51,7 +51,7 @@ Leads w a [] b = b ≡ a
 Leads w a (s ∷ ss) b = (head w s ≡ b) × Leads w a ss (tail w s)
 
 -- no pipe is used twice
-abbrev Once : List Step → Type 0
+abbrev pub Once : List Step → Type 0
 Once [] = Unit {0}
 Once (s ∷ ss) = All (λ t. t .pipe ≢ s .pipe) ss × Once ss
 
@@ -202,7 +202,7 @@ module _ (w : Network) (f : List ℕ) (a : ℕ) where
     others s b e ts (tail w t) (p .3) (n .0, n .1 .1),
   )
 
-  path-once : (ss : List Step) (b : ℕ) → Path w f a ss b → Once ss
+  pub path-once : (ss : List Step) (b : ℕ) → Path w f a ss b → Once ss
   path-once [] b p = tt
   path-once (s ∷ ss) b p = (others s b (p .1) ss (tail w s) (p .3) (p .2), path-once ss (tail w s) (p .3))
 
