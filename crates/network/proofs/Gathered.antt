@@ -19,7 +19,7 @@ use Rattle.network.specs.Residual.{pipe}
 use Rattle.network.specs.Theorems.{Sealed-cuts, Greatest-flows, By-cuts, By-flow, Governing-pipe}
 use Rattle.network.proofs.Balance.{sealed-tight, tight-greatest, tight-minimum}
 use Rattle.network.proofs.Enumerated.{least-is, value-is, near-bits, far-bits}
-use Rattle.network.proofs.Governing.{governs-raises, governs-least}
+use Rattle.network.proofs.Raising.{governs-raises, governs-least}
 use Rattle.network.proofs.Greatest.{no-path, path-greatest, some-greatest, greatest-value, greatest-near, greatest-far, near-minimum, far-minimum, greatest-apart}
 
 pub sealed-cuts : Sealed-cuts
