@@ -53,25 +53,32 @@ module _ (w : Network) (wired : Wired w) (f g : List ℕ) (c : ℕ) (flow : Flow
     ap (λ b. only b c) (ne-eqb (w .outlet) (w .pump) (λ e. wired .apart (sym e))),
   )
 
--- a path takes one litre more
-module _ (w : Network) (f : List ℕ) (a : ℕ) where
-  path-one : (ss : List Step) (b : ℕ) → Path w f a ss b → All (λ s. 1 ≤ weight w f s) ss
-  path-one [] b p = tt
-  path-one (s ∷ ss) b p = (omega (arith, p .0 .heavy), path-one ss (tail w s) (p .3))
+-- what a path from the pump to the outlet takes more is a flow of so much more
+module _ (w : Network) (wired : Wired w) (f : List ℕ) (flow : Flow w f) (c : ℕ) (ss : List Step) (path : Path w f (w .pump) ss (w .outlet))
+    (takes : All (λ s. c ≤ weight w f s) ss) where
+  within : Within w (pushed f c ss)
+  within = path-within w f (w .pump) (w .outlet) c ss path takes (flow .within)
 
-module _ (w : Network) (wired : Wired w) (f : List ℕ) (flow : Flow w f) (ss : List Step) (path : Path w f (w .pump) ss (w .outlet)) where
-  one-more : Flow w (pushed f 1 ss) × (value w (pushed f 1 ss) ≡ value w f +ℤ pos 1)
-  one-more =
-      let takes = path-one w f (w .pump) ss (w .outlet) path in
-      let within = path-within w f (w .pump) (w .outlet) 1 ss path takes (flow .within) in
-      let shifts = path-shifts w f (w .pump) (w .outlet) 1 ss path takes (flow .within) in
-      (shifted-flow w wired f (pushed f 1 ss) 1 flow within shifts, shifted-value w wired f (pushed f 1 ss) 1 flow within shifts)
+  shifts : Shifts w f (pushed f c ss) (w .pump) (w .outlet) c
+  shifts = path-shifts w f (w .pump) (w .outlet) c ss path takes (flow .within)
+
+  pub augmented-flow : Flow w (pushed f c ss)
+  augmented-flow = shifted-flow w wired f (pushed f c ss) c flow within shifts
+
+  pub augmented-value : value w (pushed f c ss) ≡ value w f +ℤ pos c
+  augmented-value = shifted-value w wired f (pushed f c ss) c flow within shifts
+
+-- a path takes one litre more
+path-one : (w : Network) (f : List ℕ) (a : ℕ) (ss : List Step) (b : ℕ) → Path w f a ss b → All (λ s. 1 ≤ weight w f s) ss
+path-one w f a [] b p = tt
+path-one w f a (s ∷ ss) b p = (omega (arith, p .0 .heavy), path-one w f a ss (tail w s) (p .3))
 
 -- a greatest flow has no augmenting path
 pub no-path : (w : Network) → Wired w → (f : List ℕ) → Greatest w f → (ss : List Step) → Path w f (w .pump) ss (w .outlet) → ⊥
 no-path w wired f g ss path =
-    let more = one-more w wired f (g .flow) ss path in
-    omega (arith, ints, more .1, g .greatest (pushed f 1 ss) (more .0))
+    let takes = path-one w f (w .pump) ss (w .outlet) path in
+    let more = augmented-flow w wired f (g .flow) 1 ss path takes in
+    omega (arith, ints, augmented-value w wired f (g .flow) 1 ss path takes, g .greatest (pushed f 1 ss) more)
 
 -- where the pump does not reach the outlet, the junctions that it reaches are a cut, and so are those that do not reach the outlet
 module _ (w : Network) (wired : Wired w) (f : List ℕ) (apart : Reaches w f (w .pump) (w .outlet) → ⊥) where
@@ -113,8 +120,9 @@ module _ (w : Network) (wired : Wired w) where
       elim (cases-bool (has s (w .outlet))) [
         | inl q ↦
             let p = reaches-path w wired f (w .pump) (wired .pump-in) (w .outlet) (r .bits (w .outlet) (wired .outlet-in) .0 q) in
-            let more = one-more w wired f h (p .0) (p .1) in
-            filled n (v + 1) (pushed f 1 (p .0)) (more .0) (omega (arith, ints, more .1)) (omega arith)
+            let takes = path-one w f (w .pump) (p .0) (w .outlet) (p .1) in
+            filled n (v + 1) (pushed f 1 (p .0)) (augmented-flow w wired f h 1 (p .0) (p .1) takes)
+            (omega (arith, ints, augmented-value w wired f h 1 (p .0) (p .1) takes)) (omega arith)
         | inr q ↦
             let cut = near-cut w wired f (λ x. both-ways _ q (r .bits (w .outlet) (wired .outlet-in) .1 x)) s r in
             (f, tight-greatest w wired f h s cut (sealed-tight w wired f h s cut (reached-sealed w wired f (w .pump) s r)))

@@ -121,15 +121,18 @@ module _ (w : Network) (wired : Wired w) (k : ℕ) (here : k < size w) where
       to e =
           let more = governs-more .0 e in
           let g = some-greatest (raised w k) raised-wired in
-          let m = some-minimum w wired in
-          (g .0, g .1 .flow, λ f h. omega (
-            arith,
-            ints,
-            more,
-            greatest-value (raised w k) raised-wired (g .0) (g .1),
-            weak-duality w wired f h (m .0) (m .1 .cut),
-            least-is w wired (m .0) (m .1),
-          ))
+          let m = some-minimum w wired in (
+            g .0,
+            g .1 .flow,
+            λ f h. omega (
+              arith,
+              ints,
+              more,
+              greatest-value (raised w k) raised-wired (g .0) (g .1),
+              weak-duality w wired f h (m .0) (m .1 .cut),
+              least-is w wired (m .0) (m .1),
+            ),
+          )
 
       fro : Raises w k → governing w (report-of w) k ≡ true
       fro r =

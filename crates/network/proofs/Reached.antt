@@ -169,10 +169,11 @@ module _ (w : Network) (wired : Wired w) (f : List ℕ) (a : ℕ) (a-in : a < w 
       longer : PathIn w f a (bitOr s (2 ^ (o .to))) (o .to)
       longer =
           let p = h .paths (o .from) (o .inside) in
-          let st = o .edge in
-          (st .step ∷ p .0,
-          (st .residual, st .ends, (λ q. not-to a (h .start) (sym q), all-weaker _ _ (λ t e. not-to (head w t) e) (p .0) (p .2)), rw (st .starts) (p .1)),
-          (rw (st .ends) (has-or s (2 ^ (o .to)) (o .to) ∙ or-right _ _ (has-power (o .to))), all-weaker _ _ (λ t. keeps (head w t)) (p .0) (p .2)))
+          let st = o .edge in (
+            st .step ∷ p .0,
+            (st .residual, st .ends, (λ q. not-to a (h .start) (sym q), all-weaker _ _ (λ t e. not-to (head w t) e) (p .0) (p .2)), rw (st .starts) (p .1)),
+            (rw (st .ends) (has-or s (2 ^ (o .to)) (o .to) ∙ or-right _ _ (has-power (o .to))), all-weaker _ _ (λ t. keeps (head w t)) (p .0) (p .2)),
+          )
 
   grown : (fuel s : ℕ) → Found w f a s → 2 ^ w .junctions ≤ s + fuel → (t : ℕ) × Found w f a t × Sealed w f t
   grown zero s h l = absurd (omega (arith, h .inside))

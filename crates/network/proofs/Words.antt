@@ -148,8 +148,12 @@ word-of (suc n) test =
           | inr d ↦ rw (has-other n k (λ e. d (sym e))) (or-false _ ∙ r .2 k (omega arith))
         ],
       )
-      | inr q ↦ (r .0, omega (arith, r .1), λ k l. elim (cases-eq k n) [
-        | inl e ↦ rw e (has-beyond n (r .0) n (r .1) (omega arith) ∙ sym q)
-        | inr d ↦ r .2 k (omega arith)
-      ])
+      | inr q ↦ (
+        r .0,
+        omega (arith, r .1),
+        λ k l. elim (cases-eq k n) [
+          | inl e ↦ rw e (has-beyond n (r .0) n (r .1) (omega arith) ∙ sym q)
+          | inr d ↦ r .2 k (omega arith)
+        ],
+      )
     ]

@@ -11,59 +11,49 @@ ghost use Rattle.network.specs.Theorems.{By-cuts, By-flow, Equal-reports, Foun
 // For every flow and cut, the value is at most the capacity.
 pub fn weak_duality()
     ensures { λ _. ⌜ Weak-duality ⌝ }
-{
-}
+{}
 
 // A cut that no residual step leaves has the flow's value as its capacity: the flow is greatest, the cut minimum.
 pub fn sealed_cuts()
     ensures { λ _. ⌜ Sealed-cuts ⌝ }
-{
-}
+{}
 
 // There is a greatest flow; no augmenting path, greatest value and least capacity are one.
 pub fn greatest_flows()
     ensures { λ _. ⌜ ((w : Network) → Wired w → Greatest-flows w) ⌝ }
-{
-}
+{}
 
 // The report by cuts: the near side is the smallest minimum cut, the far side the largest.
 pub fn report_by_cuts()
     ensures { λ _. ⌜ ((w : Network) → Wired w → By-cuts w) ⌝ }
-{
-}
+{}
 
 // The report by a greatest flow, whichever it is.
 pub fn report_by_flow()
     ensures { λ _. ⌜ ((w : Network) → Wired w → (f : List ℕ) → Greatest w f → By-flow w f) ⌝ }
-{
-}
+{}
 
 // How an engine finds the report: by a flow whose pump does not reach its outlet.
 pub fn report_found()
     ensures { λ _. ⌜ ((w : Network) → Wired w → Found-by-flow w) ⌝ }
-{
-}
+{}
 
 // Near side and far side are the same exactly where there is just one minimum cut.
 pub fn one_cut()
     ensures { λ _. ⌜ One-cut ⌝ }
-{
-}
+{}
 
 // Two reports are equal exactly where the least capacity and the two sets of junctions agree.
 pub fn equal_reports()
     ensures { λ _. ⌜ Equal-reports ⌝ }
-{
-}
+{}
 
 // A pipe governs exactly where it is open and one litre more on its limit raises the greatest value.
 pub fn governing_pipes()
     ensures { λ _. ⌜ ((w : Network) → Wired w → (k : ℕ) → Governing-pipe w k) ⌝ }
-{
-}
+{}
 
 // Ten cases worked out by the definitions.
 pub fn marked_cases()
     ensures { λ _. ⌜ All Holds marked ⌝ }
-{
-}
+{}
