@@ -19,7 +19,7 @@ use Rattle.network.specs.Network.{Pipe, Network, Wired, Limited, Sound}
 use Rattle.network.specs.Reports.{is-cut, cuts, below, all-limits, least-capacity, minimum-cuts, report-of}
 use Rattle.network.specs.Sums.{only}
 use Rattle.network.specs.Valves.{room}
-use Rattle.network.proofs.Words.{has-full, has-zero, has-power, has-other, has-beyond, and-fold-true, and-fold-parts, or-fold-false, or-fold-parts, or-fold-some, and-fold-le, or-fold-lt}
+use Rattle.network.proofs.Words.{has-full, has-zero, has-power, has-other, has-beyond, and-fold-true, and-fold-parts, or-fold-parts, or-fold-some, and-fold-le, or-fold-lt}
 
 -- what holds below n
 all-below : (P : ℕ → Type 0) (n : ℕ) → ((k : ℕ) → k < n → P k) → All P (below n)

@@ -1,6 +1,6 @@
 -- Greatest flows: that there is one, and the report by what its pump reaches and what does not reach its outlet.
 use mathlib.Core.Path.{_≡_, refl, sym, ap, _∙_}
-use mathlib.Core.Bool.{Bool, true, false, not}
+use mathlib.Core.Bool.{true, false, not}
 use mathlib.Core.List.{List, [], _∷_}
 use mathlib.Core.Logic.{inl, inr}
 use Prim.Native.Nat.{ℕ, zero, suc, _+_, _≤_, _<_}
@@ -9,13 +9,11 @@ use lib.Dec.{eqb}
 use lib.IntN.{ℤ, pos, _+ℤ_}
 use lib.ListN.{getD-replicate, length-replicate}
 use Rattle.std.specs.shelf.Lists.{All}
-use Rattle.std.proofs.shelf.Elements.{all-weaker}
 use Rattle.std.proofs.shelf.Signed.{ints}
-use Rattle.std.proofs.shelf.Tests.{cases-bool, cases-lt, eq-eqb, ne-eqb, not-from-false, not-true, both-ways}
-use Rattle.network.specs.declared.report.Report.{Report}
+use Rattle.std.proofs.shelf.Tests.{cases-bool, eq-eqb, ne-eqb, not-from-false, not-true, both-ways}
 use Rattle.network.specs.declared.step.Step.{Step}
 use Rattle.network.specs.Cuts.{has, Cut, Minimum, capacity}
-use Rattle.network.specs.Flows.{outflow, inflow, Within, Flow, dry, value, Greatest}
+use Rattle.network.specs.Flows.{Within, Flow, dry, value, Greatest}
 use Rattle.network.specs.Network.{Network, Wired}
 use Rattle.network.specs.Paths.{Path}
 use Rattle.network.specs.Pushing.{pushed, Shifts}

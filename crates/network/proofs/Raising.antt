@@ -19,7 +19,7 @@ use Rattle.network.specs.Cuts.{has, Cut, Minimum, leaves, capacity, OneMinimum
 use Rattle.network.specs.Flows.{Flow, value}
 use Rattle.network.specs.Governing.{is-open, governing, Raises}
 use Rattle.network.specs.Network.{Network, Wired}
-use Rattle.network.specs.Reports.{least-capacity, report-of, Same-cuts}
+use Rattle.network.specs.Reports.{least-capacity, report-of, SameCuts}
 use Rattle.network.specs.Residual.{nowhere, pipe, size}
 use Rattle.network.specs.Sums.{only}
 use Rattle.network.specs.Valves.{room}
@@ -198,10 +198,10 @@ fits-right : (n m s : ℕ) → s < 2 ^ m → s < 2 ^ (n + m)
 fits-right n m s l = let h : m ≤ n + m = omega arith in omega (arith, l, pow-mono h)
 
 -- two reports agree just where the least capacities do, and the junctions of every minimum cut, and those of at least one
-pub same-report : (w u : Network) → Wired w → Wired u → (report-of w ≡ report-of u) ↔ Same-cuts w u
+pub same-report : (w u : Network) → Wired w → Wired u → (report-of w ≡ report-of u) ↔ SameCuts w u
 same-report w u w-wired u-wired = (to, fro)
   where
-    to : report-of w ≡ report-of u → Same-cuts w u
+    to : report-of w ≡ report-of u → SameCuts w u
     to e = record {
       capacities = sym (value-is w) ∙ ap (λ (r : Report). r .value) e ∙ value-is u;
       every = λ k. (
@@ -214,7 +214,7 @@ same-report w u w-wired u-wired = (to, fro)
       );
     }
 
-    fro : Same-cuts w u → report-of w ≡ report-of u
+    fro : SameCuts w u → report-of w ≡ report-of u
     fro c = λ i. record { value = values i; near = nears i; far = fars i }
       where
         values : report-of w .value ≡ report-of u .value

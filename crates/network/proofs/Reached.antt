@@ -1,5 +1,5 @@
 -- Which junctions are reached: the sets of those, and paths to them.
-use mathlib.Core.Path.{_≡_, refl, sym, ap, _∙_}
+use mathlib.Core.Path.{_≡_, refl, sym, _∙_}
 use mathlib.Core.Bool.{Bool, true, false, not}
 use mathlib.Core.List.{List, [], _∷_}
 use mathlib.Core.Logic.{_≢_, _⊎_, inl, inr}
@@ -8,7 +8,7 @@ use native.Mathlib.Omega.{arith}
 use lib.Bits.{bitOr}
 use Rattle.std.specs.Orderings.{Decides}
 use Rattle.std.specs.shelf.Lists.{All}
-use Rattle.std.proofs.shelf.Bits.{pow-below, pow-pos, or-lt}
+use Rattle.std.proofs.shelf.Bits.{pow-below, or-lt}
 use Rattle.std.proofs.shelf.Elements.{all-weaker}
 use Rattle.std.proofs.shelf.Tests.{cases-bool, cases-eq, cases-lt, or-cases, or-left, or-right, not-from-false, not-true, both-ways}
 use Rattle.network.specs.declared.step.Direction.{Direction}
@@ -20,7 +20,7 @@ use Rattle.network.specs.Paths.{Path}
 use Rattle.network.specs.Reaches.{Edge, Reaches, here, on, Sealed, Reached, Apart}
 use Rattle.network.specs.Residual.{pipe, size, tail, head, weight, start-by, end-by}
 use Rattle.network.proofs.Balance.{joins}
-use Rattle.network.proofs.Words.{has-or, has-power, has-other, has-zero, same-word, same-test, or-more, word-of}
+use Rattle.network.proofs.Words.{has-or, has-power, has-other, same-word, same-test, or-more, word-of}
 
 module _ (w : Network) (f : List ℕ) where
   -- a sealed set holds what its junctions reach

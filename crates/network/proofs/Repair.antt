@@ -2,7 +2,7 @@
 use mathlib.Core.Path.{_≡_, refl, sym, ap, _∙_}
 use mathlib.Core.Bool.{Bool, true, false}
 use mathlib.Core.List.{List}
-use mathlib.Core.Logic.{_≢_, inl, inr, _↔_}
+use mathlib.Core.Logic.{_≢_, inl, inr}
 use Prim.Native.Nat.{ℕ, _+_, _-_, _^_, _≤_, _<_}
 use native.Mathlib.Omega.{arith}
 use lib.Dec.{eqb}
@@ -11,7 +11,7 @@ use lib.ListN.{length, set, length-set}
 use lib.Seq.{getD-set-same, getD-set-other}
 use Rattle.std.proofs.shelf.Signed.{ints}
 use Rattle.std.proofs.shelf.Sums.{sumBy-set}
-use Rattle.std.proofs.shelf.Tests.{cases-bool, cases-eq, eq-eqb, ne-eqb, not-from-false, not-true, both-ways}
+use Rattle.std.proofs.shelf.Tests.{cases-eq, eq-eqb, ne-eqb, not-from-false, not-true, both-ways}
 use Rattle.network.specs.Changes.{with-pipe}
 use Rattle.network.specs.Cuts.{has, Cut, Minimum, leaves, capacity}
 use Rattle.network.specs.Flows.{outflow, inflow, Within, Flow, value, Greatest}

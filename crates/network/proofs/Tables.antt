@@ -1,13 +1,11 @@
 -- The network of a table is sound, and the flow on it keeps within the limits.
 use mathlib.Core.Path.{_≡_, sym, ap, _∙_}
 use mathlib.Core.Bool.{Bool, false, _&&_, not}
-use mathlib.Core.List.{List, map}
 use Prim.Native.Nat.{ℕ, _≤_, _<_}
 use native.Mathlib.Omega.{arith}
 use lib.ListN.{length, getD, take, length-take}
 use lib.Seq.{getD-take}
 use Rattle.std.specs.Orderings.{Decides}
-use Rattle.std.specs.shelf.Lists.{All}
 use Rattle.std.proofs.shelf.Elements.{all-from-getD}
 use Rattle.std.proofs.shelf.Lists.{length-map, getD-default, getD-map, getD-past}
 use Rattle.network.specs.declared.report.Report.{Report}
@@ -17,7 +15,7 @@ use Rattle.network.specs.declared.valve.Valve.{Valve}
 use Rattle.network.specs.Cuts.{has}
 use Rattle.network.specs.Flows.{Within}
 use Rattle.network.specs.Governing.{is-open, governing, Raises}
-use Rattle.network.specs.Network.{Network, Joins, Limited, Wired, Sound}
+use Rattle.network.specs.Network.{Joins, Limited, Wired, Sound}
 use Rattle.network.specs.Pipes.{pipe-of, network-of, flow-of}
 use Rattle.network.specs.Reports.{report-of}
 use Rattle.network.specs.Residual.{nowhere, pipe, size, carried}

@@ -3,7 +3,7 @@ use mathlib.Core.Path.{_≡_}
 use mathlib.Core.List.{List, [], _∷_, reverse}
 use Prim.Native.Nat.{ℕ, _*_, _^_}
 use lib.ListN.{length}
-use Rattle.std.specs.shelf.Lists.{All, kept-by, sumBy}
+use Rattle.std.specs.shelf.Lists.{kept-by, sumBy}
 use Rattle.network.specs.declared.valve.Valve.{Valve}
 use Rattle.network.specs.declared.valve.Valve.the-variants.{Open, Closed}
 use Rattle.network.specs.Governing.{governing}

@@ -42,7 +42,7 @@ report-of w = record {
 }
 
 -- two networks, of as many junctions or not, that agree in the least capacity, the junctions in every minimum cut and those in at least one
-pub record Same-cuts (w u : Network) : Type 0 where
+pub record SameCuts (w u : Network) : Type 0 where
   pub capacities : least-capacity w ≡ least-capacity u
   pub every : (k : ℕ) → InEvery w k ↔ InEvery u k
   pub some : (k : ℕ) → InSome w k ↔ InSome u k
