@@ -171,9 +171,9 @@ module _ (w : Network) (wired : Wired w) (f : List ℕ) (flow : Flow w f) (apart
       (λ e. let r = far-bits w wired k .0 e in in-far (r .0) (r .1) k l (r .2)) (λ e. far-bits w wired k .1 (far, far-minimum, e)))
 
 -- the report of a network, by any flow whose pump does not reach its outlet
-pub report-is : (w : Network) → Wired w → (f : List ℕ) → Flow w f → (v near far : ℕ) → value w f ≡ pos v →
+pub report-is : (w : Network) → Wired w → (f : List ℕ) (v near far : ℕ) → Flow w f → value w f ≡ pos v →
     Reached w f (w .pump) near → Apart w f (w .outlet) far → has near (w .outlet) ≡ false → report-of w ≡ record { value = v; near = near; far = far }
-report-is w wired f flow v near far e n m out = λ i. record { value = value-at i; near = near-at i; far = far-at i }
+report-is w wired f v near far flow e n m out = λ i. record { value = value-at i; near = near-at i; far = far-at i }
   where
     apart : Reaches w f (w .pump) (w .outlet) → ⊥
     apart r = both-ways _ out (n .bits (w .outlet) (wired .outlet-in) .1 r)

@@ -15,11 +15,11 @@ use Rattle.network.specs.declared.report.Report.{Report}
 use Rattle.network.specs.declared.valve.Valve.{Valve}
 use Rattle.network.specs.declared.valve.Valve.the-variants.{Open, Closed}
 use Rattle.network.specs.Changes.{with-limit, raised}
-use Rattle.network.specs.Cuts.{has, Cut, Minimum, leaves, capacity, OneMinimum}
+use Rattle.network.specs.Cuts.{has, Cut, Minimum, leaves, capacity, OneMinimum, SameCuts}
 use Rattle.network.specs.Flows.{Flow, value}
 use Rattle.network.specs.Governing.{is-open, governing, Raises}
 use Rattle.network.specs.Network.{Network, Wired}
-use Rattle.network.specs.Reports.{least-capacity, report-of, SameCuts}
+use Rattle.network.specs.Reports.{least-capacity, report-of}
 use Rattle.network.specs.Residual.{nowhere, pipe, size}
 use Rattle.network.specs.Sums.{only}
 use Rattle.network.specs.Valves.{room}
@@ -203,7 +203,7 @@ same-report w u w-wired u-wired = (to, fro)
   where
     to : report-of w ≡ report-of u → SameCuts w u
     to e = record {
-      capacities = sym (value-is w) ∙ ap (λ (r : Report). r .value) e ∙ value-is u;
+      capacities = λ s t h g. least-is w w-wired s h ∙ sym (value-is w) ∙ ap (λ (r : Report). r .value) e ∙ value-is u ∙ sym (least-is u u-wired t g);
       every = λ k. (
         λ h. near-bits u u-wired k .0 (rw (ap (λ (r : Report). r .near) e) at (near-bits w w-wired k .1 h)),
         λ h. near-bits w w-wired k .0 (rw (sym (ap (λ (r : Report). r .near) e)) at (near-bits u u-wired k .1 h)),
@@ -218,7 +218,10 @@ same-report w u w-wired u-wired = (to, fro)
     fro c = λ i. record { value = values i; near = nears i; far = fars i }
       where
         values : report-of w .value ≡ report-of u .value
-        values = value-is w ∙ c .capacities ∙ sym (value-is u)
+        values =
+            let m = some-minimum w w-wired in
+            let n = some-minimum u u-wired in
+            value-is w ∙ sym (least-is w w-wired (m .0) (m .1)) ∙ c .capacities (m .0) (n .0) (m .1) (n .1) ∙ least-is u u-wired (n .0) (n .1) ∙ sym (value-is u)
 
         nears : report-of w .near ≡ report-of u .near
         nears = same-word (w .junctions + u .junctions) _ _ (fits-left _ _ _ (near-inside w)) (fits-right _ _ _ (near-inside u)) (λ k l. same-test _ _

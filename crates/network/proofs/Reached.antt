@@ -36,6 +36,21 @@ module _ (w : Network) (f : List ℕ) where
   path-reaches a [] b p = rw p here
   path-reaches a (s ∷ ss) b p = reach-step (path-reaches a ss (tail w s) (p .3)) (record { step = s; residual = p .0; starts = refl; ends = p .1 })
 
+  -- a sealed set that has a, and only what a reaches
+  pub reached-from : (a s : ℕ) → s < 2 ^ w .junctions → has s a ≡ true → Sealed w f s → ((k : ℕ) → has s k ≡ true → Reaches w f a k) → Reached w f a s
+  reached-from a s l start cl reach = record { inside = l; bits = λ k _. (reach k, λ r. sealed-reach s cl r start) }
+
+  -- a sealed set that has not b, and lacks only what reaches b
+  pub apart-from : (b s : ℕ) → s < 2 ^ w .junctions → has s b ≡ false → Sealed w f s →
+      ((k : ℕ) → k < w .junctions → has s k ≡ false → Reaches w f k b) → Apart w f b s
+  apart-from b s l out cl reach = record {
+    inside = l;
+    bits = λ k k-in. (
+      λ e. reach k k-in (not-true _ e),
+      λ r. elim (cases-bool (has s k)) [ inl q ↦ absurd (both-ways _ out (sealed-reach s cl r q)) | inr q ↦ not-from-false _ q ],
+    );
+  }
+
 start-in : (n : ℕ) (p : Pipe) → Joins n p → (y : Direction) → start-by y p < n
 start-in n p j Along = j .from-in
 start-in n p j Against = j .to-in
@@ -191,13 +206,8 @@ module _ (w : Network) (wired : Wired w) (f : List ℕ) (a : ℕ) (a-in : a < w 
 
   pub is-reached : Reached w f a reached-set
   unfolding reached-set
-  is-reached = record {
-    inside = closure .1 .inside;
-    bits = λ k l. (
-      λ e. let p = closure .1 .paths k e in path-reaches w f a (p .0) k (p .1),
-      λ r. sealed-reach w f (closure .0) (closure .2) r (closure .1 .start),
-    );
-  }
+  is-reached = reached-from w f a (closure .0) (closure .1 .inside) (closure .1 .start) (closure .2)
+      (λ k e. let p = closure .1 .paths k e in path-reaches w f a (p .0) k (p .1))
 
   pub reaches-path : (b : ℕ) → Reaches w f a b → (ss : List Step) × Path w f a ss b
   reaches-path b r = let p = closure .1 .paths b (sealed-reach w f (closure .0) (closure .2) r (closure .1 .start)) in (p .0, p .1)

@@ -10,12 +10,12 @@ ghost use Rattle.network.specs.Theorems.{ByCuts, ByFlow, EqualReports, FoundBy
 
 // For every flow and cut, the value is at most the capacity.
 pub fn weak_duality()
-    ensures { λ _. ⌜ WeakDuality ⌝ }
+    ensures { λ _. ⌜ ((w : Network) → Wired w → WeakDuality w) ⌝ }
 {}
 
 // A cut that no residual step leaves has the flow's value as its capacity: the flow is greatest, the cut minimum.
 pub fn sealed_cuts()
-    ensures { λ _. ⌜ SealedCuts ⌝ }
+    ensures { λ _. ⌜ ((w : Network) → Wired w → SealedCuts w) ⌝ }
 {}
 
 // There is a greatest flow; no augmenting path, greatest value and least capacity are one.
@@ -40,12 +40,12 @@ pub fn report_found()
 
 // Near side and far side are the same exactly where there is just one minimum cut.
 pub fn one_cut()
-    ensures { λ _. ⌜ OneCut ⌝ }
+    ensures { λ _. ⌜ ((w : Network) → Wired w → OneCut w) ⌝ }
 {}
 
 // Two reports are equal exactly where the least capacity and the two sets of junctions agree.
 pub fn equal_reports()
-    ensures { λ _. ⌜ EqualReports ⌝ }
+    ensures { λ _. ⌜ ((w u : Network) → Wired w → Wired u → EqualReports w u) ⌝ }
 {}
 
 // A pipe governs exactly where it is open and one litre more on its limit raises the greatest value.
