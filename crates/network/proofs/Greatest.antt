@@ -7,6 +7,7 @@ use Prim.Native.Nat.{ℕ, zero, suc, _+_, _≤_, _<_}
 use native.Mathlib.Omega.{arith}
 use lib.Dec.{eqb}
 use lib.IntN.{ℤ, pos, _+ℤ_}
+use lib.Signed.{_≤ℤ_}
 use lib.ListN.{getD-replicate, length-replicate}
 use Rattle.std.specs.shelf.Lists.{All}
 use Rattle.std.proofs.shelf.Signed.{ints}
@@ -213,3 +214,9 @@ path-greatest w wired f h none = apart-greatest w wired f h apart _ _ (is-reache
   where
     apart : Reaches w f (w .pump) (w .outlet) → ⊥
     apart r = let p = reaches-path w wired f (w .pump) (wired .pump-in) (w .outlet) r in none (p .0) (p .1)
+
+-- no flow brings more than the report's value
+pub flow-le : (w : Network) → Wired w → (f : List ℕ) → Flow w f → value w f ≤ℤ pos (report-of w .value)
+flow-le w wired f h =
+    let m = some-minimum w wired in
+    omega (arith, ints, weak-duality w wired f h (m .0) (m .1 .cut), least-is w wired (m .0) (m .1), value-is w)

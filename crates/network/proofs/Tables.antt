@@ -1,13 +1,14 @@
 -- The network of a table is sound, and the flow on it keeps within the limits.
-use mathlib.Core.Path.{_≡_, sym, ap, _∙_}
+use mathlib.Core.Path.{_≡_, refl, sym, ap, _∙_}
 use mathlib.Core.Bool.{Bool, false, _&&_, not}
-use Prim.Native.Nat.{ℕ, _≤_, _<_}
+use mathlib.Core.List.{List, [], _∷_, map}
+use Prim.Native.Nat.{ℕ, zero, suc, _≤_, _<_}
 use native.Mathlib.Omega.{arith}
-use lib.ListN.{length, getD, take, length-take}
+use lib.ListN.{length, getD, set, take, length-take}
 use lib.Seq.{getD-take}
 use Rattle.std.specs.Orderings.{Decides}
 use Rattle.std.proofs.shelf.Elements.{all-from-getD}
-use Rattle.std.proofs.shelf.Lists.{length-map, getD-default, getD-map, getD-past}
+use Rattle.std.proofs.shelf.Lists.{length-map, getD-default, getD-map, getD-past, map-set}
 use Rattle.network.specs.declared.report.Report.{Report}
 use Rattle.network.specs.declared.row.Row.{Row}
 use Rattle.network.specs.declared.table.Table.{Table}
@@ -21,6 +22,16 @@ use Rattle.network.specs.Reports.{report-of}
 use Rattle.network.specs.Residual.{nowhere, pipe, size, carried}
 use Rattle.network.specs.Rows.{no-row}
 use Rattle.network.proofs.Raising.{governs-raises}
+
+take-set-in : {X : Type 0} (n : ℕ) (xs : List X) (k : ℕ) (y : X) → k < n → take n (set xs k y) ≡ set (take n xs) k y
+take-set-in zero xs k y l = absurd (omega arith)
+take-set-in (suc n) [] k y l = refl
+take-set-in (suc n) (x ∷ xs) zero y l = refl
+take-set-in (suc n) (x ∷ xs) (suc k) y l = ap (λ zs. x ∷ zs) (take-set-in n xs k y (omega arith))
+
+-- one row of n changed, seen through f: the pipes, or the flows
+pub rows-set : {Y : Type 0} (f : Row → Y) (rows : List Row) (n k : ℕ) (r : Row) → k < n → map f (take n (set rows k r)) ≡ set (map f (take n rows)) k (f r)
+rows-set f rows n k r l = ap (map f) (take-set-in n rows k r l) ∙ map-set f (take n rows) k r
 
 module _ (t : Table) where
   taken : length (take (t .count) (t .rows)) ≡ t .count
