@@ -18,7 +18,7 @@ use Rattle.network.specs.declared.valve.Valve.the-variants.{Open, Closed}
 use Rattle.network.specs.Cuts.{has, Cut, Minimum, leaves, capacity}
 use Rattle.network.specs.Flows.{outflow, inflow, Within, Flow, value, Greatest}
 use Rattle.network.specs.Network.{Pipe, Network, Wired, Joins}
-use Rattle.network.specs.Reaches.{Edge, Sealed}
+use Rattle.network.specs.Reaches.{Sealed}
 use Rattle.network.specs.Residual.{nowhere, pipe, size, carried, start-by, end-by, weight-by}
 use Rattle.network.specs.Sums.{total, only}
 use Rattle.network.specs.Valves.{room}

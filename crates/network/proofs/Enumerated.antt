@@ -5,19 +5,21 @@ use mathlib.Core.List.{List, [], _∷_}
 use mathlib.Core.Logic.{_⊎_, inl, inr}
 use Prim.Native.Nat.{ℕ, zero, suc, _-_, _^_, _≤_, _<_, min}
 use native.Mathlib.Omega.{arith}
+use lib.Pow.{pow-mono}
 use Rattle.std.specs.Orderings.{Decides}
 use Rattle.std.specs.shelf.Lists.{All, kept-by, folded, sumBy}
 use Rattle.std.proofs.shelf.Bits.{pow-pos, pow-below}
-use Rattle.std.proofs.shelf.Sums.{sumBy-cons}
+use Rattle.std.proofs.shelf.Elements.{all-weaker}
+use Rattle.std.proofs.shelf.Sums.{sumBy-cons, sumBy-le}
 use Rattle.std.proofs.shelf.Tests.{cases-eq, cases-lt, cases-bool, eq-eqb, eqb-true, and-parts, and-from, not-from-false, not-true, both-ways, false≢true}
 use Rattle.network.specs.declared.valve.Valve.{Valve}
 use Rattle.network.specs.declared.valve.Valve.the-variants.{Open, Closed}
 use Rattle.network.specs.Cuts.{has, Cut, Minimum, leaves, capacity, InEvery, InSome}
-use Rattle.network.specs.Network.{Pipe, Network, Wired}
+use Rattle.network.specs.Network.{Pipe, Network, Wired, Limited, Sound}
 use Rattle.network.specs.Reports.{is-cut, cuts, below, all-limits, least-capacity, minimum-cuts, report-of}
 use Rattle.network.specs.Sums.{only}
 use Rattle.network.specs.Valves.{room}
-use Rattle.network.proofs.Words.{has-full, has-zero, has-power, has-other, has-beyond, and-fold-true, and-fold-parts, or-fold-false, or-fold-parts, or-fold-some, and-fold-le, or-fold-lt}
+use Rattle.network.proofs.Words.{has-full, has-zero, has-power, has-other, has-beyond, and-fold-true, and-fold-parts, or-fold-parts, or-fold-some, and-fold-le, or-fold-lt}
 
 -- what holds below n
 all-below : (P : ℕ → Type 0) (n : ℕ) → ((k : ℕ) → k < n → P k) → All P (below n)
@@ -180,3 +182,21 @@ module _ (w : Network) (wired : Wired w) where
       | inr q ↦ not-from-false _ q
     ],
   )
+
+-- the report of a network that a sheet can describe fits its fields
+module _ (w : Network) (sound : Sound w) where
+  pub value-small : report-of w .value ≤ 30720000
+  value-small = omega (
+    arith,
+    value-is w,
+    least-le w (2 ^ w .pump) (pump-alone w (sound .wired)),
+    capacity-le (2 ^ w .pump) (w .pipes),
+    sumBy-le (λ p. p .limit) 60000 (w .pipes) (all-weaker Limited (λ p. p .limit ≤ 60000) (λ p h. h .few) (w .pipes) (sound .limited)),
+    sound .held,
+  )
+
+  pub near-small : report-of w .near < 2 ^ 64
+  near-small = omega (arith, near-inside w, pow-mono (sound .most))
+
+  pub far-small : report-of w .far < 2 ^ 64
+  far-small = omega (arith, far-inside w (sound .wired), pow-mono (sound .most))

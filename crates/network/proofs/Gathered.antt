@@ -1,40 +1,43 @@
 -- The theorems, gathered.
-use mathlib.Core.Path.{_≡_, refl, sym, ap, _∙_}
-use mathlib.Core.Bool.{Bool, true, _&&_}
+use mathlib.Core.Path.{_≡_, refl, sym, _∙_}
+use mathlib.Core.Bool.{true}
 use Prim.Native.Nat.{ℕ}
 use native.Mathlib.Omega.{arith}
 use mathlib.Core.List.{List}
-use Rattle.std.specs.Orderings.{Decides}
 use Rattle.std.specs.shelf.Lists.{All}
 use Rattle.std.proofs.shelf.Signed.{ints}
 use Rattle.std.proofs.shelf.Tests.{and-parts, false≢true}
 use Rattle.network.specs.declared.valve.Valve.{Valve}
 use Rattle.network.specs.declared.valve.Valve.the-variants.{Open, Closed}
 use Rattle.network.specs.Cases.{Holds, marked}
+use Rattle.network.specs.Changes.{raised}
 use Rattle.network.specs.Flows.{Greatest}
 use Rattle.network.specs.Governing.{is-open, governing}
 use Rattle.network.specs.Network.{Network, Wired}
 use Rattle.network.specs.Reports.{least-capacity, report-of}
 use Rattle.network.specs.Residual.{pipe}
-use Rattle.network.specs.Theorems.{Sealed-cuts, Greatest-flows, By-cuts, By-flow, Governing-pipe}
-use Rattle.network.proofs.Balance.{sealed-tight, tight-greatest, tight-minimum}
+use Rattle.network.specs.Theorems.{WeakDuality, SealedCuts, GreatestFlows, ByCuts, ByFlow, GoverningPipe}
+use Rattle.network.proofs.Balance.{weak-duality, sealed-tight, tight-greatest, tight-minimum}
 use Rattle.network.proofs.Enumerated.{least-is, value-is, near-bits, far-bits}
-use Rattle.network.proofs.Governing.{governs-raises, governs-least}
+use Rattle.network.proofs.Raising.{governs-raises, governs-least}
 use Rattle.network.proofs.Greatest.{no-path, path-greatest, some-greatest, greatest-value, greatest-near, greatest-far, near-minimum, far-minimum, greatest-apart}
 
-pub sealed-cuts : Sealed-cuts
-sealed-cuts w wired f h s c cl =
+pub sealed-cuts : (w : Network) → Wired w → SealedCuts w
+sealed-cuts w wired f s h c cl =
     let tight = sealed-tight w wired f h s c cl in
     record { even = tight; greatest = tight-greatest w wired f h s c tight; minimum = tight-minimum w wired f h s c tight }
 
-pub greatest-flows : (w : Network) → Wired w → Greatest-flows w
+pub weak : (w : Network) → Wired w → WeakDuality w
+weak w wired f s h c = weak-duality w wired f h s c
+
+pub greatest-flows : (w : Network) → Wired w → GreatestFlows w
 greatest-flows w wired = record {
   some = some-greatest w wired;
   augmenting = λ f h. (no-path w wired f, path-greatest w wired f h);
-  bring = greatest-value w wired;
+  bring = λ f s g m. omega (arith, ints, greatest-value w wired f g, least-is w wired s m);
 }
 
-pub by-cuts : (w : Network) → Wired w → By-cuts w
+pub by-cuts : (w : Network) → Wired w → ByCuts w
 by-cuts w wired =
     let f = some-greatest w wired in
     let apart = greatest-apart w wired (f .0) (f .1) in
@@ -48,7 +51,7 @@ by-cuts w wired =
       largest = far-minimum w wired (f .0) (f .1 .flow) apart _ _ near far;
     }
 
-pub by-flow : (w : Network) → Wired w → (f : List ℕ) → Greatest w f → By-flow w f
+pub by-flow : (w : Network) → Wired w → (f : List ℕ) → Greatest w f → ByFlow w f
 by-flow w wired f g = record {
   value-is = omega (arith, ints, greatest-value w wired f g, value-is w);
   reached = greatest-near w wired f g;
@@ -59,10 +62,13 @@ open-is : (v : Valve) → is-open v ≡ true → v ≡ Open
 open-is Open e = refl
 open-is Closed e = absurd (false≢true e)
 
-pub governing-pipes : (w : Network) → Wired w → (k : ℕ) → Governing-pipe w k
+pub governing-pipes : (w : Network) → Wired w → (k : ℕ) → GoverningPipe w k
 governing-pipes w wired k = record {
   flows = (λ e. (valve e, governs-raises w wired k .0 e), λ h. governs-raises w wired k .1 (h .1));
-  cuts = (λ e. (valve e, governs-least w wired k .0 e), λ h. governs-least w wired k .1 (h .1));
+  reports = (
+    λ e. (valve e, omega (arith, governs-least w wired k .0 e, value-is w, value-is (raised w k))),
+    λ h. governs-least w wired k .1 (omega (arith, h .1, value-is w, value-is (raised w k))),
+  );
 }
   where
     valve : governing w (report-of w) k ≡ true → pipe w k .valve ≡ Open
@@ -72,5 +78,5 @@ pub marked-cases : All Holds marked
 unfolding least-capacity report-of
 marked-cases = (
   (refl, refl, refl),
-  ((refl, refl, refl), ((refl, refl, refl), (refl, ((refl, refl, refl), ((refl, refl, refl), ((refl, refl, refl), ((refl, refl, refl), ((refl, refl, refl), ((refl, refl, refl), tt)))))))))
+  ((refl, refl, refl), ((refl, refl, refl), (refl, ((refl, refl, refl), ((refl, refl, refl), ((refl, refl, refl), ((refl, refl, refl), ((refl, refl, refl), ((refl, refl, refl), tt))))))))),
 )

@@ -1,21 +1,20 @@
 -- Greatest flows: that there is one, and the report by what its pump reaches and what does not reach its outlet.
 use mathlib.Core.Path.{_≡_, refl, sym, ap, _∙_}
-use mathlib.Core.Bool.{Bool, true, false, not}
+use mathlib.Core.Bool.{true, false, not}
 use mathlib.Core.List.{List, [], _∷_}
 use mathlib.Core.Logic.{inl, inr}
 use Prim.Native.Nat.{ℕ, zero, suc, _+_, _≤_, _<_}
 use native.Mathlib.Omega.{arith}
 use lib.Dec.{eqb}
 use lib.IntN.{ℤ, pos, _+ℤ_}
+use lib.Signed.{_≤ℤ_}
 use lib.ListN.{getD-replicate, length-replicate}
 use Rattle.std.specs.shelf.Lists.{All}
-use Rattle.std.proofs.shelf.Elements.{all-weaker}
 use Rattle.std.proofs.shelf.Signed.{ints}
-use Rattle.std.proofs.shelf.Tests.{cases-bool, cases-lt, eq-eqb, ne-eqb, not-from-false, not-true, both-ways}
-use Rattle.network.specs.declared.report.Report.{Report}
+use Rattle.std.proofs.shelf.Tests.{cases-bool, eq-eqb, ne-eqb, not-from-false, not-true, both-ways}
 use Rattle.network.specs.declared.step.Step.{Step}
 use Rattle.network.specs.Cuts.{has, Cut, Minimum, capacity}
-use Rattle.network.specs.Flows.{outflow, inflow, Within, Flow, dry, value, Greatest}
+use Rattle.network.specs.Flows.{Within, Flow, dry, value, Greatest}
 use Rattle.network.specs.Network.{Network, Wired}
 use Rattle.network.specs.Paths.{Path}
 use Rattle.network.specs.Pushing.{pushed, Shifts}
@@ -53,25 +52,32 @@ module _ (w : Network) (wired : Wired w) (f g : List ℕ) (c : ℕ) (flow : Flow
     ap (λ b. only b c) (ne-eqb (w .outlet) (w .pump) (λ e. wired .apart (sym e))),
   )
 
--- a path takes one litre more
-module _ (w : Network) (f : List ℕ) (a : ℕ) where
-  path-one : (ss : List Step) (b : ℕ) → Path w f a ss b → All (λ s. 1 ≤ weight w f s) ss
-  path-one [] b p = tt
-  path-one (s ∷ ss) b p = (omega (arith, p .0 .heavy), path-one ss (tail w s) (p .3))
+-- what a path from the pump to the outlet takes more is a flow of so much more
+module _ (w : Network) (wired : Wired w) (f : List ℕ) (flow : Flow w f) (c : ℕ) (ss : List Step) (path : Path w f (w .pump) ss (w .outlet))
+    (takes : All (λ s. c ≤ weight w f s) ss) where
+  within : Within w (pushed f c ss)
+  within = path-within w f (w .pump) (w .outlet) c ss path takes (flow .within)
 
-module _ (w : Network) (wired : Wired w) (f : List ℕ) (flow : Flow w f) (ss : List Step) (path : Path w f (w .pump) ss (w .outlet)) where
-  one-more : Flow w (pushed f 1 ss) × (value w (pushed f 1 ss) ≡ value w f +ℤ pos 1)
-  one-more =
-      let takes = path-one w f (w .pump) ss (w .outlet) path in
-      let within = path-within w f (w .pump) (w .outlet) 1 ss path takes (flow .within) in
-      let shifts = path-shifts w f (w .pump) (w .outlet) 1 ss path takes (flow .within) in
-      (shifted-flow w wired f (pushed f 1 ss) 1 flow within shifts, shifted-value w wired f (pushed f 1 ss) 1 flow within shifts)
+  shifts : Shifts w f (pushed f c ss) (w .pump) (w .outlet) c
+  shifts = path-shifts w f (w .pump) (w .outlet) c ss path takes (flow .within)
+
+  pub augmented-flow : Flow w (pushed f c ss)
+  augmented-flow = shifted-flow w wired f (pushed f c ss) c flow within shifts
+
+  pub augmented-value : value w (pushed f c ss) ≡ value w f +ℤ pos c
+  augmented-value = shifted-value w wired f (pushed f c ss) c flow within shifts
+
+-- a path takes one litre more
+path-one : (w : Network) (f : List ℕ) (a : ℕ) (ss : List Step) (b : ℕ) → Path w f a ss b → All (λ s. 1 ≤ weight w f s) ss
+path-one w f a [] b p = tt
+path-one w f a (s ∷ ss) b p = (omega (arith, p .0 .heavy), path-one w f a ss (tail w s) (p .3))
 
 -- a greatest flow has no augmenting path
 pub no-path : (w : Network) → Wired w → (f : List ℕ) → Greatest w f → (ss : List Step) → Path w f (w .pump) ss (w .outlet) → ⊥
 no-path w wired f g ss path =
-    let more = one-more w wired f (g .flow) ss path in
-    omega (arith, ints, more .1, g .greatest (pushed f 1 ss) (more .0))
+    let takes = path-one w f (w .pump) ss (w .outlet) path in
+    let more = augmented-flow w wired f (g .flow) 1 ss path takes in
+    omega (arith, ints, augmented-value w wired f (g .flow) 1 ss path takes, g .greatest (pushed f 1 ss) more)
 
 -- where the pump does not reach the outlet, the junctions that it reaches are a cut, and so are those that do not reach the outlet
 module _ (w : Network) (wired : Wired w) (f : List ℕ) (apart : Reaches w f (w .pump) (w .outlet) → ⊥) where
@@ -113,8 +119,9 @@ module _ (w : Network) (wired : Wired w) where
       elim (cases-bool (has s (w .outlet))) [
         | inl q ↦
             let p = reaches-path w wired f (w .pump) (wired .pump-in) (w .outlet) (r .bits (w .outlet) (wired .outlet-in) .0 q) in
-            let more = one-more w wired f h (p .0) (p .1) in
-            filled n (v + 1) (pushed f 1 (p .0)) (more .0) (omega (arith, ints, more .1)) (omega arith)
+            let takes = path-one w f (w .pump) (p .0) (w .outlet) (p .1) in
+            filled n (v + 1) (pushed f 1 (p .0)) (augmented-flow w wired f h 1 (p .0) (p .1) takes)
+            (omega (arith, ints, augmented-value w wired f h 1 (p .0) (p .1) takes)) (omega arith)
         | inr q ↦
             let cut = near-cut w wired f (λ x. both-ways _ q (r .bits (w .outlet) (wired .outlet-in) .1 x)) s r in
             (f, tight-greatest w wired f h s cut (sealed-tight w wired f h s cut (reached-sealed w wired f (w .pump) s r)))
@@ -165,9 +172,9 @@ module _ (w : Network) (wired : Wired w) (f : List ℕ) (flow : Flow w f) (apart
       (λ e. let r = far-bits w wired k .0 e in in-far (r .0) (r .1) k l (r .2)) (λ e. far-bits w wired k .1 (far, far-minimum, e)))
 
 -- the report of a network, by any flow whose pump does not reach its outlet
-pub report-is : (w : Network) → Wired w → (f : List ℕ) → Flow w f → (v near far : ℕ) → value w f ≡ pos v →
+pub report-is : (w : Network) → Wired w → (f : List ℕ) (v near far : ℕ) → Flow w f → value w f ≡ pos v →
     Reached w f (w .pump) near → Apart w f (w .outlet) far → has near (w .outlet) ≡ false → report-of w ≡ record { value = v; near = near; far = far }
-report-is w wired f flow v near far e n m out = λ i. record { value = value-at i; near = near-at i; far = far-at i }
+report-is w wired f v near far flow e n m out = λ i. record { value = value-at i; near = near-at i; far = far-at i }
   where
     apart : Reaches w f (w .pump) (w .outlet) → ⊥
     apart r = both-ways _ out (n .bits (w .outlet) (wired .outlet-in) .1 r)
@@ -207,3 +214,9 @@ path-greatest w wired f h none = apart-greatest w wired f h apart _ _ (is-reache
   where
     apart : Reaches w f (w .pump) (w .outlet) → ⊥
     apart r = let p = reaches-path w wired f (w .pump) (wired .pump-in) (w .outlet) r in none (p .0) (p .1)
+
+-- no flow brings more than the report's value
+pub flow-le : (w : Network) → Wired w → (f : List ℕ) → Flow w f → value w f ≤ℤ pos (report-of w .value)
+flow-le w wired f h =
+    let m = some-minimum w wired in
+    omega (arith, ints, weak-duality w wired f h (m .0) (m .1 .cut), least-is w wired (m .0) (m .1), value-is w)

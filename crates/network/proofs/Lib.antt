@@ -7,6 +7,7 @@ pub mod Pushing
 pub mod Reached
 pub mod Greatest
 pub mod Changes
-pub mod Governing
+pub mod Raising
 pub mod Repair
 pub mod Gathered
+pub mod Tables

@@ -1,6 +1,6 @@
 -- Pushing an amount along a path.
 use mathlib.Core.Path.{_≡_, refl, sym, ap, _∙_}
-use mathlib.Core.Bool.{Bool, true}
+use mathlib.Core.Bool.{true}
 use mathlib.Core.List.{List, [], _∷_}
 use mathlib.Core.Logic.{_≢_, inl, inr}
 use Prim.Native.Nat.{ℕ, _+_, _-_, _≤_, _<_}
@@ -20,7 +20,7 @@ use Rattle.network.specs.Flows.{outflow, inflow, Within}
 use Rattle.network.specs.Network.{Pipe, Network}
 use Rattle.network.specs.Paths.{Fresh, Path}
 use Rattle.network.specs.Pushing.{moved, push, pushed, Shifts}
-use Rattle.network.specs.Reaches.{Edge, Sealed}
+use Rattle.network.specs.Reaches.{Sealed}
 use Rattle.network.specs.Residual.{pipe, size, carried, tail, head, start-by, end-by, weight, weight-by, Residual}
 use Rattle.network.specs.Sums.{total, only}
 use Rattle.network.specs.Valves.{room}

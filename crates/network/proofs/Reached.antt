@@ -1,5 +1,5 @@
 -- Which junctions are reached: the sets of those, and paths to them.
-use mathlib.Core.Path.{_≡_, refl, sym, ap, _∙_}
+use mathlib.Core.Path.{_≡_, refl, sym, _∙_}
 use mathlib.Core.Bool.{Bool, true, false, not}
 use mathlib.Core.List.{List, [], _∷_}
 use mathlib.Core.Logic.{_≢_, _⊎_, inl, inr}
@@ -8,7 +8,7 @@ use native.Mathlib.Omega.{arith}
 use lib.Bits.{bitOr}
 use Rattle.std.specs.Orderings.{Decides}
 use Rattle.std.specs.shelf.Lists.{All}
-use Rattle.std.proofs.shelf.Bits.{pow-below, pow-pos, or-lt}
+use Rattle.std.proofs.shelf.Bits.{pow-below, or-lt}
 use Rattle.std.proofs.shelf.Elements.{all-weaker}
 use Rattle.std.proofs.shelf.Tests.{cases-bool, cases-eq, cases-lt, or-cases, or-left, or-right, not-from-false, not-true, both-ways}
 use Rattle.network.specs.declared.step.Direction.{Direction}
@@ -20,7 +20,7 @@ use Rattle.network.specs.Paths.{Path}
 use Rattle.network.specs.Reaches.{Edge, Reaches, here, on, Sealed, Reached, Apart}
 use Rattle.network.specs.Residual.{pipe, size, tail, head, weight, start-by, end-by}
 use Rattle.network.proofs.Balance.{joins}
-use Rattle.network.proofs.Words.{has-or, has-power, has-other, has-zero, same-word, same-test, or-more, word-of}
+use Rattle.network.proofs.Words.{has-or, has-power, has-other, same-word, same-test, or-more, word-of}
 
 module _ (w : Network) (f : List ℕ) where
   -- a sealed set holds what its junctions reach
@@ -35,6 +35,21 @@ module _ (w : Network) (f : List ℕ) where
   pub path-reaches : (a : ℕ) (ss : List Step) (b : ℕ) → Path w f a ss b → Reaches w f a b
   path-reaches a [] b p = rw p here
   path-reaches a (s ∷ ss) b p = reach-step (path-reaches a ss (tail w s) (p .3)) (record { step = s; residual = p .0; starts = refl; ends = p .1 })
+
+  -- a sealed set that has a, and only what a reaches
+  pub reached-from : (a s : ℕ) → s < 2 ^ w .junctions → has s a ≡ true → Sealed w f s → ((k : ℕ) → has s k ≡ true → Reaches w f a k) → Reached w f a s
+  reached-from a s l start cl reach = record { inside = l; bits = λ k _. (reach k, λ r. sealed-reach s cl r start) }
+
+  -- a sealed set that has not b, and lacks only what reaches b
+  pub apart-from : (b s : ℕ) → s < 2 ^ w .junctions → has s b ≡ false → Sealed w f s →
+      ((k : ℕ) → k < w .junctions → has s k ≡ false → Reaches w f k b) → Apart w f b s
+  apart-from b s l out cl reach = record {
+    inside = l;
+    bits = λ k k-in. (
+      λ e. reach k k-in (not-true _ e),
+      λ r. elim (cases-bool (has s k)) [ inl q ↦ absurd (both-ways _ out (sealed-reach s cl r q)) | inr q ↦ not-from-false _ q ],
+    );
+  }
 
 start-in : (n : ℕ) (p : Pipe) → Joins n p → (y : Direction) → start-by y p < n
 start-in n p j Along = j .from-in
@@ -191,13 +206,8 @@ module _ (w : Network) (wired : Wired w) (f : List ℕ) (a : ℕ) (a-in : a < w 
 
   pub is-reached : Reached w f a reached-set
   unfolding reached-set
-  is-reached = record {
-    inside = closure .1 .inside;
-    bits = λ k l. (
-      λ e. let p = closure .1 .paths k e in path-reaches w f a (p .0) k (p .1),
-      λ r. sealed-reach w f (closure .0) (closure .2) r (closure .1 .start),
-    );
-  }
+  is-reached = reached-from w f a (closure .0) (closure .1 .inside) (closure .1 .start) (closure .2)
+      (λ k e. let p = closure .1 .paths k e in path-reaches w f a (p .0) k (p .1))
 
   pub reaches-path : (b : ℕ) → Reaches w f a b → (ss : List Step) × Path w f a ss b
   reaches-path b r = let p = closure .1 .paths b (sealed-reach w f (closure .0) (closure .2) r (closure .1 .start)) in (p .0, p .1)

@@ -2,7 +2,7 @@
 use mathlib.Core.Path.{_≡_, refl, sym, ap, _∙_}
 use mathlib.Core.Bool.{Bool, true, false}
 use mathlib.Core.List.{List}
-use mathlib.Core.Logic.{_≢_, inl, inr, _↔_}
+use mathlib.Core.Logic.{_≢_, inl, inr}
 use Prim.Native.Nat.{ℕ, _+_, _-_, _^_, _≤_, _<_}
 use native.Mathlib.Omega.{arith}
 use lib.Dec.{eqb}
@@ -11,7 +11,7 @@ use lib.ListN.{length, set, length-set}
 use lib.Seq.{getD-set-same, getD-set-other}
 use Rattle.std.proofs.shelf.Signed.{ints}
 use Rattle.std.proofs.shelf.Sums.{sumBy-set}
-use Rattle.std.proofs.shelf.Tests.{cases-bool, cases-eq, eq-eqb, ne-eqb, not-from-false, not-true, both-ways}
+use Rattle.std.proofs.shelf.Tests.{cases-eq, eq-eqb, ne-eqb, not-from-false, not-true, both-ways}
 use Rattle.network.specs.Changes.{with-pipe}
 use Rattle.network.specs.Cuts.{has, Cut, Minimum, leaves, capacity}
 use Rattle.network.specs.Flows.{outflow, inflow, Within, Flow, value, Greatest}
@@ -124,16 +124,25 @@ module _ (w : Network) (wired : Wired w) (i j : ℕ) where
       ap (λ b. only b v) (ne-eqb (w .outlet) (w .pump) (ends-apart w wired)),
     )
 
-  module _ (f g : List ℕ) (a b c d e : ℕ) (within : Within w g) where
+  module _ (f g : List ℕ) (a b c d a′ b′ c′ d′ e : ℕ) (within : Within w g) where
     -- e litres led from i to j; back from i to the pump; back from the outlet to j
-    pub torn-over : Torn w f i j a b (c + e) (d + e) → Shifts w f g i j e → Torn w g i j a b c d
-    torn-over t s = record { within = within; nets = λ k l. omega (arith, t .nets k l, s k, only-add (eqb i k) c e, only-add (eqb j k) d e) }
+    pub torn-over : Torn w f i j a b c d → Shifts w f g i j e → c ≡ c′ + e → d ≡ d′ + e → Torn w g i j a b c′ d′
+    torn-over t s p q = record {
+      within = within;
+      nets = λ k l. omega (arith, t .nets k l, s k, ap (only (eqb i k)) p, ap (only (eqb j k)) q, only-add (eqb i k) c′ e, only-add (eqb j k) d′ e);
+    }
 
-    pub torn-back : Torn w f i j (a + e) b (c + e) d → Shifts w f g i (w .pump) e → Torn w g i j a b c d
-    torn-back t s = record { within = within; nets = λ k l. omega (arith, t .nets k l, s k, only-add (eqb i k) c e, only-add (eqb (w .pump) k) a e) }
+    pub torn-back : Torn w f i j a b c d → Shifts w f g i (w .pump) e → a ≡ a′ + e → c ≡ c′ + e → Torn w g i j a′ b c′ d
+    torn-back t s p q = record {
+      within = within;
+      nets = λ k l. omega (arith, t .nets k l, s k, ap (only (eqb (w .pump) k)) p, ap (only (eqb i k)) q, only-add (eqb (w .pump) k) a′ e, only-add (eqb i k) c′ e);
+    }
 
-    pub torn-forth : Torn w f i j a (b + e) c (d + e) → Shifts w f g (w .outlet) j e → Torn w g i j a b c d
-    torn-forth t s = record { within = within; nets = λ k l. omega (arith, t .nets k l, s k, only-add (eqb (w .outlet) k) b e, only-add (eqb j k) d e) }
+    pub torn-forth : Torn w f i j a b c d → Shifts w f g (w .outlet) j e → b ≡ b′ + e → d ≡ d′ + e → Torn w g i j a b′ c d′
+    torn-forth t s p q = record {
+      within = within;
+      nets = λ k l. omega (arith, t .nets k l, s k, ap (only (eqb (w .outlet) k)) p, ap (only (eqb j k)) q, only-add (eqb (w .outlet) k) b′ e, only-add (eqb j k) d′ e);
+    }
 
   module _ (i-in : i < w .junctions) (j-in : j < w .junctions) where
     -- a set of junctions, against what goes in and comes out
@@ -206,6 +215,20 @@ module _ (w : Network) (wired : Wired w) (i j : ℕ) where
           at x false e = refl
           at true true e = absurd (omega (arith, even))
           at false true e = absurd (omega (arith, even))
+
+      -- what remained led back from i to the pump and from the outlet to j: the mended flow is greatest
+      pub mended : (v d : ℕ) → Torn w g i j v v d d → 0 < d → s < 2 ^ w .junctions →
+          (f h : List ℕ) → Within w f → Shifts w g f i (w .pump) d → Within w h → Shifts w f h (w .outlet) j d →
+          Flow w h × (value w h ≡ pos (v - d)) × Greatest w h
+      mended v d t p l f h fits back inside forth =
+          let c = torn-cut v d t p l in
+          let less : v ≡ v - d + d = omega (arith, c .1) in
+          let all : d ≡ 0 + d = omega arith in
+          let led : Torn w f i j (v - d) v 0 d = torn-back g f v v d d (v - d) 0 0 0 d fits t back less all in
+          let whole : Torn w h i j (v - d) (v - d) 0 0 = torn-forth f h (v - d) v 0 d 0 (v - d) 0 0 d inside led forth less all in
+          let flow = torn-flow h (v - d) whole in
+          let worth = torn-value h (v - d) whole in
+          (flow, worth, torn-greatest v d (v - d) t p l (omega (arith, c .1)) h flow worth .0)
 
       -- i does not reach j
       pub cut-off : Reaches w g i j → ⊥

@@ -11,7 +11,7 @@ use lib.Bits.{bitAnd, bitOr, and-step, or-step, or-add-and}
 use lib.Pow.{pow-mono}
 use Rattle.std.specs.shelf.Lists.{All, folded}
 use Rattle.std.proofs.shelf.Bits.{and-shr, or-shr, and-mask, shr-shr, pow-below, or-lt, and-le-l, and-le-r}
-use Rattle.std.proofs.shelf.Tests.{cases-eq, cases-bool, both-ways, and-parts, and-from, or-parts, or-cases, or-from, or-right}
+use Rattle.std.proofs.shelf.Tests.{cases-eq, cases-bool, both-ways, and-parts, and-from, or-parts, or-cases, or-right}
 use Rattle.std.proofs.shelf.Ways.{tells}
 use Rattle.network.specs.Cuts.{has}
 
@@ -90,10 +90,6 @@ and-fold-parts k i (s ∷ ss) e =
     let rest = and-fold-parts k (bitAnd i s) ss e in
     let both = and-parts (has i k) (has s k) (sym (has-and i s k) ∙ rest .0) in
     (both .0, (both .1, rest .1))
-
-pub or-fold-false : (k i : ℕ) (ss : List ℕ) → has i k ≡ false → All (λ s. has s k ≡ false) ss → has (folded bitOr i ss) k ≡ false
-or-fold-false k i [] e h = e
-or-fold-false k i (s ∷ ss) e h = or-fold-false k (bitOr i s) ss (has-or i s k ∙ or-from _ _ e (h .0)) (h .1)
 
 pub or-fold-parts : (k i : ℕ) (ss : List ℕ) → has (folded bitOr i ss) k ≡ false → (has i k ≡ false) × All (λ s. has s k ≡ false) ss
 or-fold-parts k i [] e = (e, tt)

@@ -3,7 +3,7 @@ use mathlib.Core.Path.{_≡_}
 use mathlib.Core.List.{List, [], _∷_, reverse}
 use Prim.Native.Nat.{ℕ, _*_, _^_}
 use lib.ListN.{length}
-use Rattle.std.specs.shelf.Lists.{All, kept-by, sumBy}
+use Rattle.std.specs.shelf.Lists.{kept-by, sumBy}
 use Rattle.network.specs.declared.valve.Valve.{Valve}
 use Rattle.network.specs.declared.valve.Valve.the-variants.{Open, Closed}
 use Rattle.network.specs.Governing.{governing}
@@ -11,9 +11,11 @@ use Rattle.network.specs.Network.{Pipe, Network, bare}
 use Rattle.network.specs.Reports.{below, minimum-cuts, report-of}
 use Rattle.network.specs.Residual.{size}
 
+-- the word of a set of junctions
 abbrev pub set-of : List ℕ → ℕ
 set-of ks = sumBy (λ k. 2 ^ k) ks
 
+-- the numbers of the governing pipes
 abbrev pub governing-pipes : Network → List ℕ
 governing-pipes w = kept-by (governing w (report-of w)) (reverse (below (size w)))
 
@@ -27,11 +29,13 @@ pub data Case : Type 0 where
   rated : (w : Network) (value : ℕ) (near far : List ℕ) (cuts : ℕ) (govern : List ℕ) → Case
   totalled : (steps : List Timed) (total : ℕ) → Case
 
+-- what a case says of the definitions
 abbrev pub Holds : Case → Type 0
 Holds (rated w value near far cuts govern) =
     (report-of w ≡ record { value = value; near = set-of near; far = set-of far }) × (length (minimum-cuts w) ≡ cuts) × (governing-pipes w ≡ govern)
 Holds (totalled steps total) = sumBy (λ t. t .minutes * report-of (t .network) .value) steps ≡ total
 
+-- a pipe; and a network with pump 0
 abbrev pub leading : ℕ → ℕ → ℕ → Valve → Pipe
 leading a b l v = record { from = a; to = b; limit = l; valve = v }
 
@@ -42,6 +46,7 @@ joined n out ps = record { junctions = n; pump = 0; outlet = out; pipes = ps }
 abbrev pub example : Valve → Valve → Network
 example a b = joined 4 3 (leading 0 1 30 Open ∷ leading 0 2 20 a ∷ leading 1 2 10 Open ∷ leading 1 3 25 b ∷ leading 2 3 25 Open ∷ [])
 
+-- the example at its three steps, its total, and six networks at the edges
 abbrev pub marked : List Case
 marked =
     rated (example Open Open) 50 (0 ∷ []) (0 ∷ 1 ∷ 2 ∷ []) 2 []

@@ -1,6 +1,7 @@
 -- Cuts of a network. A set of junctions is a word: bit k stands for junction k.
 use mathlib.Core.Path.{_≡_}
 use mathlib.Core.Bool.{Bool, true, false, _&&_, not}
+use mathlib.Core.Logic.{_↔_}
 use Prim.Native.Nat.{ℕ, _/_, _%_, _^_, _≤_, _<_}
 use lib.Dec.{eqb}
 use Rattle.std.specs.shelf.Lists.{sumBy}
@@ -41,3 +42,9 @@ InSome w k = (s : ℕ) × Minimum w s × (has s k ≡ true)
 -- there is a minimum cut, and every minimum cut is that one
 abbrev pub OneMinimum : Network → Type 0
 OneMinimum w = (s : ℕ) × Minimum w s × ((t : ℕ) → Minimum w t → t ≡ s)
+
+-- two networks, of as many junctions or not: their minimum cuts agree in the capacity, in the junctions that all have, and in those that at least one has
+pub record SameCuts (w u : Network) : Type 0 where
+  pub capacities : (s t : ℕ) → Minimum w s → Minimum u t → capacity w s ≡ capacity u t
+  pub every : (k : ℕ) → InEvery w k ↔ InEvery u k
+  pub some : (k : ℕ) → InSome w k ↔ InSome u k

@@ -1,3 +1,4 @@
+pub mod governing;
 pub mod pipe;
 pub mod pipes;
 pub mod report;

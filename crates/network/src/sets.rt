@@ -1,11 +1,9 @@
 ghost use mathlib.Core.Path.{_≡_};
-ghost use Prim.Native.Nat.{_<_};
 ghost use Rattle.network.specs.Cuts.{has};
 
-// Whether a set of junctions has junction `k`.
-pub fn contains(word: u64, k: usize) -> bool
-    requires { ⌜ k < 64 ⌝ }
-    ensures { λ r. ⌜ r ≡ has word k ⌝ }
+// Whether junction k is in the set: bit k of the word, and of a junction beyond the word not.
+pub fn holds(set: u64, k: usize) -> bool
+    ensures { λ r. ⌜ r ≡ has set k ⌝ }
 {
-    (word >> k) % 2 == 1
+    k < 64 && (set >> k) % 2 == 1
 }

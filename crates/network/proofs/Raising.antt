@@ -15,11 +15,11 @@ use Rattle.network.specs.declared.report.Report.{Report}
 use Rattle.network.specs.declared.valve.Valve.{Valve}
 use Rattle.network.specs.declared.valve.Valve.the-variants.{Open, Closed}
 use Rattle.network.specs.Changes.{with-limit, raised}
-use Rattle.network.specs.Cuts.{has, Cut, Minimum, leaves, capacity, OneMinimum}
+use Rattle.network.specs.Cuts.{has, Cut, Minimum, leaves, capacity, OneMinimum, SameCuts}
 use Rattle.network.specs.Flows.{Flow, value}
 use Rattle.network.specs.Governing.{is-open, governing, Raises}
 use Rattle.network.specs.Network.{Network, Wired}
-use Rattle.network.specs.Reports.{least-capacity, report-of, Same-cuts}
+use Rattle.network.specs.Reports.{least-capacity, report-of}
 use Rattle.network.specs.Residual.{nowhere, pipe, size}
 use Rattle.network.specs.Sums.{only}
 use Rattle.network.specs.Valves.{room}
@@ -121,15 +121,18 @@ module _ (w : Network) (wired : Wired w) (k : ℕ) (here : k < size w) where
       to e =
           let more = governs-more .0 e in
           let g = some-greatest (raised w k) raised-wired in
-          let m = some-minimum w wired in
-          (g .0, g .1 .flow, λ f h. omega (
-            arith,
-            ints,
-            more,
-            greatest-value (raised w k) raised-wired (g .0) (g .1),
-            weak-duality w wired f h (m .0) (m .1 .cut),
-            least-is w wired (m .0) (m .1),
-          ))
+          let m = some-minimum w wired in (
+            g .0,
+            g .1 .flow,
+            λ f h. omega (
+              arith,
+              ints,
+              more,
+              greatest-value (raised w k) raised-wired (g .0) (g .1),
+              weak-duality w wired f h (m .0) (m .1 .cut),
+              least-is w wired (m .0) (m .1),
+            ),
+          )
 
       fro : Raises w k → governing w (report-of w) k ≡ true
       fro r =
@@ -195,12 +198,12 @@ fits-right : (n m s : ℕ) → s < 2 ^ m → s < 2 ^ (n + m)
 fits-right n m s l = let h : m ≤ n + m = omega arith in omega (arith, l, pow-mono h)
 
 -- two reports agree just where the least capacities do, and the junctions of every minimum cut, and those of at least one
-pub same-report : (w u : Network) → Wired w → Wired u → (report-of w ≡ report-of u) ↔ Same-cuts w u
+pub same-report : (w u : Network) → Wired w → Wired u → (report-of w ≡ report-of u) ↔ SameCuts w u
 same-report w u w-wired u-wired = (to, fro)
   where
-    to : report-of w ≡ report-of u → Same-cuts w u
+    to : report-of w ≡ report-of u → SameCuts w u
     to e = record {
-      capacities = sym (value-is w) ∙ ap (λ (r : Report). r .value) e ∙ value-is u;
+      capacities = λ s t h g. least-is w w-wired s h ∙ sym (value-is w) ∙ ap (λ (r : Report). r .value) e ∙ value-is u ∙ sym (least-is u u-wired t g);
       every = λ k. (
         λ h. near-bits u u-wired k .0 (rw (ap (λ (r : Report). r .near) e) at (near-bits w w-wired k .1 h)),
         λ h. near-bits w w-wired k .0 (rw (sym (ap (λ (r : Report). r .near) e)) at (near-bits u u-wired k .1 h)),
@@ -211,11 +214,14 @@ same-report w u w-wired u-wired = (to, fro)
       );
     }
 
-    fro : Same-cuts w u → report-of w ≡ report-of u
+    fro : SameCuts w u → report-of w ≡ report-of u
     fro c = λ i. record { value = values i; near = nears i; far = fars i }
       where
         values : report-of w .value ≡ report-of u .value
-        values = value-is w ∙ c .capacities ∙ sym (value-is u)
+        values =
+            let m = some-minimum w w-wired in
+            let n = some-minimum u u-wired in
+            value-is w ∙ sym (least-is w w-wired (m .0) (m .1)) ∙ c .capacities (m .0) (n .0) (m .1) (n .1) ∙ least-is u u-wired (n .0) (n .1) ∙ sym (value-is u)
 
         nears : report-of w .near ≡ report-of u .near
         nears = same-word (w .junctions + u .junctions) _ _ (fits-left _ _ _ (near-inside w)) (fits-right _ _ _ (near-inside u)) (λ k l. same-test _ _
