@@ -45,3 +45,68 @@ pub fn value(table: &Table) -> u32
     let back = passing_at(table, table.pump, Direction::Against);
     out.saturating_sub(back)
 }
+
+// The ends of a step over this pipe: the one from which a set spreads in this sense, and the one that it spreads to.
+fn ends_of(row: &Row, direction: Direction, sense: Direction) -> (usize, usize)
+    ensures near { λ r. ⌜ r .0 ≡ near-by sense direction (pipe-of (now (row .entry))) ⌝ }
+    ensures far { λ r. ⌜ r .1 ≡ far-by sense direction (pipe-of (now (row .entry))) ⌝ }
+{
+    let tail = tail_of(row, direction);
+    let head = head_of(row, direction);
+    match sense {
+        Direction::Along => (tail, head),
+        Direction::Against => (head, tail),
+    }
+}
+
+// The set, with the far end of a residual step if it has the near end.
+fn cross(table: &Table, step: Step, sense: Direction, seen: u64) -> u64
+    requires { ⌜ step .pipe < now table .count ⌝ }
+    ensures spread { λ r. ⌜ Spread sense (network-of (now (table .entry))) (flow-of (now (table .entry))) seen r ⌝ }
+    ensures crossed { λ r. ⌜ Crossed sense (network-of (now (table .entry))) (flow-of (now (table .entry))) seen r step ⌝ }
+{
+    let row = table.rows[step.pipe];
+    let weight = weight_of(&row, step.direction);
+    let (near, far) = ends_of(&row, step.direction, sense);
+    if weight > 0 && contains(seen, near) {
+        seen | (1 << far)
+    } else {
+        seen
+    }
+}
+
+// One round: every step is crossed.
+fn round(table: &Table, sense: Direction, seen: u64) -> u64
+    ensures spread { λ r. ⌜ Spread sense (network-of (now (table .entry))) (flow-of (now (table .entry))) seen r ⌝ }
+    ensures crossed { λ r. ⌜ ((s : Step) → Crossed sense (network-of (now (table .entry))) (flow-of (now (table .entry))) seen r s) ⌝ }
+{
+    let mut grown = seen;
+    for pipe in 0..table.count {
+        let along = Step {
+            pipe,
+            direction: Direction::Along,
+        };
+        let against = Step {
+            pipe,
+            direction: Direction::Against,
+        };
+        let half = cross(table, along, sense, grown);
+        grown = cross(table, against, sense, half);
+    }
+    grown
+}
+
+// The junctions that `start` reaches over residual steps (Along), or that reach it (Against): rounds until one adds nothing.
+pub fn reached(table: &Table, start: usize, sense: Direction) -> u64
+    requires { ⌜ start < now table .junctions ⌝ }
+    ensures { λ r. ⌜ Closure sense (network-of (now (table .entry))) (flow-of (now (table .entry))) start r ⌝ }
+{
+    let mut seen = 1 << start;
+    loop {
+        let grown = round(table, sense, seen);
+        if grown == seen {
+            return seen;
+        }
+        seen = grown;
+    }
+}
