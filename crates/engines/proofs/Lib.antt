@@ -1,3 +1,4 @@
 pub mod Closures
 pub mod Passing
+pub mod Surveys
 pub mod Tables

@@ -1,6 +1,6 @@
 ghost use mathlib.Core.Path.{_≡_};
 ghost use mathlib.Core.List.{List};
-ghost use Prim.Native.Nat.{ℕ, _-_, _<_};
+ghost use Prim.Native.Nat.{ℕ, _-_, _^_, _<_};
 ghost use Rattle.network.specs.declared.step.Direction.the-variants.{Along, Against};
 ghost use Rattle.network.specs.Flows.{Flow, outflow, inflow};
 ghost use Rattle.network.specs.Governing.{governing};
@@ -108,5 +108,42 @@ pub fn reached(table: &Table, start: usize, sense: Direction) -> u64
             return seen;
         }
         seen = grown;
+    }
+}
+
+// The set of all junctions.
+fn all_junctions(table: &Table) -> u64
+    ensures { λ r. ⌜ r ≡ 2 ^ now (table .entry) .junctions - 1 ⌝ }
+{
+    u64::MAX >> (64 - table.junctions)
+}
+
+// The report by the flow that the table keeps. It is the network's own once no path augments the flow.
+pub fn report(table: &Table) -> Report
+    ensures value { λ r. ⌜ r .value ≡ outflow (network-of (now (table .entry))) (flow-of (now (table .entry))) (now (table .entry) .pump) - inflow (network-of (now (table .entry))) (flow-of (now (table .entry))) (now (table .entry) .pump) ⌝ }
+    ensures near { λ r. ⌜ Reached (network-of (now (table .entry))) (flow-of (now (table .entry))) (now (table .entry) .pump) (r .near) ⌝ }
+    ensures far { λ r. ⌜ Apart (network-of (now (table .entry))) (flow-of (now (table .entry))) (now (table .entry) .outlet) (r .far) ⌝ }
+    ensures whole { λ r. ⌜ (Flow (network-of (now (table .entry))) (flow-of (now (table .entry))) → ((ss : List Step) → Path (network-of (now (table .entry))) (flow-of (now (table .entry))) (now (table .entry) .pump) ss (now (table .entry) .outlet) → ⊥) → r ≡ report-of (network-of (now (table .entry)))) ⌝ }
+{
+    let reaching = reached(table, table.outlet, Direction::Against);
+    Report {
+        value: value(table),
+        near: reached(table, table.pump, Direction::Along),
+        far: all_junctions(table) - reaching,
+    }
+}
+
+// Whether a pipe lies in every minimum cut, by the two sides of the report.
+pub fn governs(table: &Table, report: &Report, k: usize) -> bool
+    requires { ⌜ k < now table .count ⌝ }
+    ensures { λ r. ⌜ r ≡ governing (network-of (now (table .entry))) (now (report .entry)) k ⌝ }
+{
+    // every row of a table keeps the rules, so there is a pipe
+    let Some(pipe) = Pipe::from_row(&table.rows[k]) else {
+        return false;
+    };
+    match pipe.valve {
+        Valve::Open => contains(report.near, pipe.from) && !contains(report.far, pipe.to),
+        Valve::Closed => false,
     }
 }
