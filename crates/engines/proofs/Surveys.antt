@@ -13,7 +13,7 @@ use Rattle.std.proofs.shelf.Signed.{ints}
 use Rattle.std.proofs.shelf.Ways.{tells}
 use Rattle.network.specs.declared.pipe.Pipe as pipe-record
 use Rattle.network.specs.declared.report.Report.{Report}
-use Rattle.network.specs.declared.step.Direction.the-variants.{Along, Against}
+use Rattle.network.specs.declared.step.Direction.the-variants.{Against}
 use Rattle.network.specs.declared.step.Step.{Step}
 use Rattle.network.specs.declared.table.Table.{Table}
 use Rattle.network.specs.declared.valve.Valve.{Valve}

@@ -1,7 +1,6 @@
 ghost use mathlib.Core.Path.{_≡_};
 ghost use mathlib.Core.List.{List};
-ghost use Prim.Native.Nat.{ℕ, _-_, _^_, _<_};
-ghost use Rattle.network.specs.declared.step.Direction.the-variants.{Along, Against};
+ghost use Prim.Native.Nat.{_-_, _^_, _<_};
 ghost use Rattle.network.specs.Flows.{Flow, outflow, inflow};
 ghost use Rattle.network.specs.Governing.{governing};
 ghost use Rattle.network.specs.Paths.{Path};

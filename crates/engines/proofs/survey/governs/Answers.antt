@@ -1,10 +1,8 @@
-use mathlib.Core.Path.{_≡_, refl, sym, _∙_}
+use mathlib.Core.Path.{refl, sym, _∙_}
 use mathlib.Core.Bool.{true, false}
-use Prim.Native.Nat.{_<_}
 use native.Mathlib.Omega.{arith}
 use Rattle.network.specs.declared.step.Direction.the-variants.{Along}
 use Rattle.network.specs.declared.valve.Valve.the-variants.{Open, Closed}
-use Rattle.network.specs.Cuts.{has}
 use Rattle.paths.proofs.Tables.{sound-read, ends-read}
 use Rattle.engines.proofs.Surveys.{governing-read}
 use Rattle.engines.proofs.survey.governs.Needs as need

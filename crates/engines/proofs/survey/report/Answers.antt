@@ -1,5 +1,5 @@
-use mathlib.Core.Path.{_≡_, sym, ap, subst}
-use Prim.Native.Nat.{ℕ, _-_, _^_}
+use mathlib.Core.Path.{sym, subst}
+use Prim.Native.Nat.{ℕ, _-_}
 use Rattle.network.specs.Pipes.{network-of, flow-of}
 use Rattle.network.specs.Reaches.{Reached, Apart}
 use Rattle.engines.proofs.Closures.{closure-reached}

@@ -1,4 +1,3 @@
-use Prim.Native.Nat.{_<_}
 use native.Mathlib.Omega.{arith}
 use Rattle.network.specs.Pipes.{network-of, flow-of}
 use Rattle.paths.proofs.Tables.{size-is}
