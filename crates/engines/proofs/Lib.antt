@@ -1,6 +1,8 @@
 pub mod Chained
 pub mod Pushes
+pub mod Closures
 pub mod Passing
+pub mod Surveys
 pub mod Tables
 pub mod Weights
 pub mod Augmenting

@@ -1,9 +1,8 @@
 -- What a table's own rules say of its network.
-use mathlib.Core.Path.{_≡_, sym, ap, subst, _∙_}
-use mathlib.Core.List.{List, map}
-use Prim.Native.Nat.{ℕ, _+_, _≤_, _<_}
+use mathlib.Core.Path.{subst}
+use Prim.Native.Nat.{ℕ, _≤_, _<_}
 use native.Mathlib.Omega.{arith}
-use lib.ListN.{length, getD, take}
+use lib.ListN.{getD}
 use Rattle.std.proofs.shelf.Elements.{all-from-getD}
 use Rattle.std.proofs.shelf.Lists.{getD-default}
 use Rattle.network.specs.declared.valve.Valve.{Valve}
@@ -11,8 +10,8 @@ use Rattle.network.specs.declared.valve.Valve.the-variants.{Open, Closed}
 use Rattle.network.specs.declared.row.Row.{Row}
 use Rattle.network.specs.declared.step.Direction.the-variants.{Along}
 use Rattle.network.specs.declared.table.Table.{Table}
-use Rattle.network.specs.Network.{Pipe, Wired, Joins}
-use Rattle.network.specs.Pipes.{pipe-of, network-of, flow-of}
+use Rattle.network.specs.Network.{Wired, Joins}
+use Rattle.network.specs.Pipes.{network-of}
 use Rattle.network.specs.Residual.{nowhere, size}
 use Rattle.network.specs.Rows.{no-row, Sound-flow, Limited}
 use Rattle.network.specs.Valves.{room}

@@ -1,7 +1,6 @@
 ghost use mathlib.Core.Path.{_≡_};
 ghost use mathlib.Core.List.{List};
-ghost use Prim.Native.Nat.{ℕ, _-_, _<_};
-ghost use Rattle.network.specs.declared.step.Direction.the-variants.{Along, Against};
+ghost use Prim.Native.Nat.{_-_, _^_, _<_};
 ghost use Rattle.network.specs.Flows.{Flow, outflow, inflow};
 ghost use Rattle.network.specs.Governing.{governing};
 ghost use Rattle.network.specs.Paths.{Path};
@@ -44,4 +43,106 @@ pub fn value(table: &Table) -> u32
     let out = passing_at(table, table.pump, Direction::Along);
     let back = passing_at(table, table.pump, Direction::Against);
     out.saturating_sub(back)
+}
+
+// The ends of a step over this pipe: the one from which a set spreads in this sense, and the one that it spreads to.
+fn ends_of(row: &Row, direction: Direction, sense: Direction) -> (usize, usize)
+    ensures near { λ r. ⌜ r .0 ≡ near-by sense direction (pipe-of (now (row .entry))) ⌝ }
+    ensures far { λ r. ⌜ r .1 ≡ far-by sense direction (pipe-of (now (row .entry))) ⌝ }
+{
+    let tail = tail_of(row, direction);
+    let head = head_of(row, direction);
+    match sense {
+        Direction::Along => (tail, head),
+        Direction::Against => (head, tail),
+    }
+}
+
+// The set, with the far end of a residual step if it has the near end.
+fn cross(table: &Table, step: Step, sense: Direction, seen: u64) -> u64
+    requires { ⌜ step .pipe < now table .count ⌝ }
+    ensures spread { λ r. ⌜ Spread sense (network-of (now (table .entry))) (flow-of (now (table .entry))) seen r ⌝ }
+    ensures crossed { λ r. ⌜ Crossed sense (network-of (now (table .entry))) (flow-of (now (table .entry))) seen r step ⌝ }
+{
+    let row = table.rows[step.pipe];
+    let weight = weight_of(&row, step.direction);
+    let (near, far) = ends_of(&row, step.direction, sense);
+    if weight > 0 && contains(seen, near) {
+        seen | (1 << far)
+    } else {
+        seen
+    }
+}
+
+// One round: every step is crossed.
+fn round(table: &Table, sense: Direction, seen: u64) -> u64
+    ensures spread { λ r. ⌜ Spread sense (network-of (now (table .entry))) (flow-of (now (table .entry))) seen r ⌝ }
+    ensures crossed { λ r. ⌜ ((s : Step) → Crossed sense (network-of (now (table .entry))) (flow-of (now (table .entry))) seen r s) ⌝ }
+{
+    let mut grown = seen;
+    for pipe in 0..table.count {
+        let along = Step {
+            pipe,
+            direction: Direction::Along,
+        };
+        let against = Step {
+            pipe,
+            direction: Direction::Against,
+        };
+        let half = cross(table, along, sense, grown);
+        grown = cross(table, against, sense, half);
+    }
+    grown
+}
+
+// The junctions that `start` reaches over residual steps (Along), or that reach it (Against): rounds until one adds nothing.
+pub fn reached(table: &Table, start: usize, sense: Direction) -> u64
+    requires { ⌜ start < now table .junctions ⌝ }
+    ensures { λ r. ⌜ Closure sense (network-of (now (table .entry))) (flow-of (now (table .entry))) start r ⌝ }
+{
+    let mut seen = 1 << start;
+    loop {
+        let grown = round(table, sense, seen);
+        if grown == seen {
+            return seen;
+        }
+        seen = grown;
+    }
+}
+
+// The set of all junctions.
+fn all_junctions(table: &Table) -> u64
+    ensures { λ r. ⌜ r ≡ 2 ^ now (table .entry) .junctions - 1 ⌝ }
+{
+    u64::MAX >> (64 - table.junctions)
+}
+
+// The report by the flow that the table keeps. It is the network's own once no path augments the flow.
+pub fn report(table: &Table) -> Report
+    ensures value { λ r. ⌜ r .value ≡ outflow (network-of (now (table .entry))) (flow-of (now (table .entry))) (now (table .entry) .pump) - inflow (network-of (now (table .entry))) (flow-of (now (table .entry))) (now (table .entry) .pump) ⌝ }
+    ensures near { λ r. ⌜ Reached (network-of (now (table .entry))) (flow-of (now (table .entry))) (now (table .entry) .pump) (r .near) ⌝ }
+    ensures far { λ r. ⌜ Apart (network-of (now (table .entry))) (flow-of (now (table .entry))) (now (table .entry) .outlet) (r .far) ⌝ }
+    ensures whole { λ r. ⌜ (Flow (network-of (now (table .entry))) (flow-of (now (table .entry))) → ((ss : List Step) → Path (network-of (now (table .entry))) (flow-of (now (table .entry))) (now (table .entry) .pump) ss (now (table .entry) .outlet) → ⊥) → r ≡ report-of (network-of (now (table .entry)))) ⌝ }
+{
+    let reaching = reached(table, table.outlet, Direction::Against);
+    Report {
+        value: value(table),
+        near: reached(table, table.pump, Direction::Along),
+        far: all_junctions(table) - reaching,
+    }
+}
+
+// Whether a pipe lies in every minimum cut, by the two sides of the report.
+pub fn governs(table: &Table, report: &Report, k: usize) -> bool
+    requires { ⌜ k < now table .count ⌝ }
+    ensures { λ r. ⌜ r ≡ governing (network-of (now (table .entry))) (now (report .entry)) k ⌝ }
+{
+    // every row of a table keeps the rules, so there is a pipe
+    let Some(pipe) = Pipe::from_row(&table.rows[k]) else {
+        return false;
+    };
+    match pipe.valve {
+        Valve::Open => contains(report.near, pipe.from) && !contains(report.far, pipe.to),
+        Valve::Closed => false,
+    }
 }
