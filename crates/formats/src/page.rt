@@ -6,7 +6,7 @@ ghost use Rattle.formats.specs.Spaces.{put-at};
 use crate::fields::put_number;
 use crate::refusal::Refusal;
 use network::report::Report;
-use network::sets::contains;
+use network::sets::holds;
 
 // Writes bytes from `at` on.
 pub fn put_bytes(space: &mut [u8], at: usize, bytes: &[u8])
@@ -21,9 +21,9 @@ fn letter_of_side(report: &Report, k: usize) -> u8
     requires { ⌜ k < 64 ⌝ }
     ensures { λ r. ⌜ r ≡ side-letter (now (report .entry)) k ⌝ }
 {
-    if contains(report.near, k) {
+    if holds(report.near, k) {
         b'N'
-    } else if contains(report.far, k) {
+    } else if holds(report.far, k) {
         b'B'
     } else {
         b'D'
