@@ -7,3 +7,5 @@ pub mod Tables
 pub mod Weights
 pub mod Augmenting
 pub mod Bounds
+pub mod Patterning
+pub mod Settling

@@ -78,13 +78,4 @@ module _ (w : Network) (wired : Wired w) (f : List ℕ) (v near far : ℕ) (v-is
   surveyed =
       let g = path-greatest w wired f flow none in
       let e : value w f ≡ pos v = (let q = greatest-value w wired f g in omega (arith, ints, q)) in
-      sym (report-is w wired f flow v near far e n m (near-cut w wired f (greatest-apart w wired f g) near n .outlet-out))
-
--- governing, by what is read of the pipe
-pub governing-read : (t : Table) (r : Report) (k : ℕ) → k < t .count → (p : pipe-record.Pipe) → same-row p (getD (t .rows) k read-row) → (v : Valve) (a b : Bool) →
-    p .valve ≡ v → a ≡ has (r .near) (p .from) → b ≡ has (r .far) (p .to) → governing (network-of t) r k ≡ (is-open v && (a && not b))
-governing-read t r k h p same v a b v-is a-is b-is =
-    ap (λ (q : Pipe). is-open (q .valve) && (has (r .near) (q .from) && not (has (r .far) (q .to)))) (pipe-is t k h)
-    ∙ ap (λ (x : Valve). is-open x && (has (r .near) (getD (t .rows) k read-row .from) && not (has (r .far) (getD (t .rows) k read-row .to)))) (sym (same .4) ∙ v-is)
-    ∙ ap (λ (x : Bool). is-open v && (x && not (has (r .far) (getD (t .rows) k read-row .to)))) (ap (λ (n : ℕ). has (r .near) n) (sym (same .0)) ∙ sym a-is)
-    ∙ ap (λ (x : Bool). is-open v && (a && not x)) (ap (λ (n : ℕ). has (r .far) n) (sym (same .1)) ∙ sym b-is)
+      sym (report-is w wired f v near far flow e n m (near-cut w wired f (greatest-apart w wired f g) near n .outlet-out))

@@ -2,3 +2,5 @@ pub mod Augmentations
 pub mod Chains
 pub mod Closures
 pub mod Surveys
+pub mod Verdicts
+pub mod Balances

@@ -2,21 +2,18 @@ ghost use mathlib.Core.Path.{_≡_};
 ghost use mathlib.Core.List.{List};
 ghost use Prim.Native.Nat.{_-_, _^_, _<_};
 ghost use Rattle.network.specs.Flows.{Flow, outflow, inflow};
-ghost use Rattle.network.specs.Governing.{governing};
 ghost use Rattle.network.specs.Paths.{Path};
 ghost use Rattle.network.specs.Pipes.{pipe-of, network-of, flow-of};
 ghost use Rattle.network.specs.Reaches.{Reached, Apart};
 ghost use Rattle.network.specs.Reports.{report-of};
 ghost use Rattle.engines.specs.Closures.{Closure, Spread, Crossed, near-by, far-by};
 ghost use Rattle.engines.specs.Surveys.{passing};
-use network::pipe::Pipe;
 use network::report::Report;
 use network::row::Row;
-use network::sets::contains;
+use network::sets::holds;
 use network::step::Direction;
 use network::step::Step;
 use network::table::Table;
-use network::valve::Valve;
 use paths::residual::head_of;
 use paths::residual::tail_of;
 use paths::residual::weight_of;
@@ -67,7 +64,7 @@ fn cross(table: &Table, step: Step, sense: Direction, seen: u64) -> u64
     let row = table.rows[step.pipe];
     let weight = weight_of(&row, step.direction);
     let (near, far) = ends_of(&row, step.direction, sense);
-    if weight > 0 && contains(seen, near) {
+    if weight > 0 && holds(seen, near) {
         seen | (1 << far)
     } else {
         seen
@@ -129,20 +126,5 @@ pub fn report(table: &Table) -> Report
         value: value(table),
         near: reached(table, table.pump, Direction::Along),
         far: all_junctions(table) - reaching,
-    }
-}
-
-// Whether a pipe lies in every minimum cut, by the two sides of the report.
-pub fn governs(table: &Table, report: &Report, k: usize) -> bool
-    requires { ⌜ k < now table .count ⌝ }
-    ensures { λ r. ⌜ r ≡ governing (network-of (now (table .entry))) (now (report .entry)) k ⌝ }
-{
-    // every row of a table keeps the rules, so there is a pipe
-    let Some(pipe) = Pipe::from_row(&table.rows[k]) else {
-        return false;
-    };
-    match pipe.valve {
-        Valve::Open => contains(report.near, pipe.from) && !contains(report.far, pipe.to),
-        Valve::Closed => false,
     }
 }

@@ -1,0 +1,96 @@
+ghost use mathlib.Core.Path.{_≡_};
+ghost use Rattle.network.specs.Flows.{dry};
+ghost use Rattle.network.specs.Pipes.{network-of, flow-of};
+ghost use Rattle.engines.specs.Augmentations.{Fills};
+use crate::cold::ColdEngine;
+use crate::engine::Engine;
+use crate::engine::FlowEngine;
+use crate::settle::settle;
+use crate::settle::with_pattern;
+use formats::letters::check_pattern;
+use formats::reader::Reader;
+use formats::refusal::Refusal;
+use network::governing::governs;
+use network::report::Report;
+use network::row::Row;
+use network::table::MOST_JUNCTIONS;
+use network::table::MOST_PIPES;
+use network::table::Table;
+use network::valve::Valve;
+use paths::label::Label;
+use paths::metric::PathMetric;
+use std::marker::PhantomData;
+
+const NO_ROW: Row = Row { from: 0, to: 0, limit: 0, flow: 0, valve: Valve::Closed };
+
+// A call without text concerns no line.
+const NO_LINE: usize = 0;
+
+pub impl<M: PathMetric> Engine for ColdEngine<M> as ColdEngineCalls {
+    const MOST_JUNCTIONS: usize = MOST_JUNCTIONS;
+
+    type Place = Label<M>;
+
+    ghost meaning = { λ e. network-of (e .table) };
+
+    ghost most = { 64 };
+
+    // from dry pipes to the kept flow
+    ghost counted = { λ a b n. Fills (network-of (b .table)) (M·PathMetric .good) (M·PathMetric .start) (M·PathMetric .extended) (dry (network-of (b .table))) n (flow-of (b .table)) };
+
+    fn new() -> Self {
+        let table = Table { junctions: 2, pump: 0, outlet: 1, rows: [NO_ROW; MOST_PIPES], count: 0 };
+        ColdEngine { table, report: Report { value: 0, near: 1, far: 1 }, metric: PhantomData }
+    }
+
+    fn junction_bound() -> usize {
+        MOST_JUNCTIONS
+    }
+
+    fn load(&mut self, text: &[u8], work: &mut [Label<M>]) -> Result<usize, Refusal> {
+        if work.len() < MOST_JUNCTIONS {
+            return Err(Refusal::FewPlaces);
+        }
+        let mut reader = Reader::new(text);
+        let mut table = reader.sheet(MOST_JUNCTIONS)?;
+        let (report, _) = settle(&mut table, work);
+        *self = ColdEngine { table, report, metric: PhantomData };
+        Ok(reader.at)
+    }
+
+    fn pattern(&mut self, letters: &[u8], work: &mut [Label<M>]) -> Result<(i64, u32), Refusal> {
+        if work.len() < MOST_JUNCTIONS {
+            return Err(Refusal::FewPlaces);
+        }
+        if letters.len() != self.table.count {
+            return Err(Refusal::BadLine(NO_LINE));
+        }
+        check_pattern(letters, NO_LINE)?;
+        let mut table = with_pattern(&self.table, letters);
+        let (report, count) = settle(&mut table, work);
+        let change = report.value as i64 - self.report.value as i64;
+        *self = ColdEngine { table, report, metric: PhantomData };
+        Ok((change, count))
+    }
+
+    fn report(&self, work: &mut [Label<M>]) -> Result<Report, Refusal> {
+        if work.len() < MOST_JUNCTIONS {
+            return Err(Refusal::FewPlaces);
+        }
+        Ok(self.report)
+    }
+
+    fn governing(&self, pipe: usize, work: &mut [Label<M>]) -> Result<bool, Refusal> {
+        if work.len() < MOST_JUNCTIONS {
+            return Err(Refusal::FewPlaces);
+        }
+        if pipe >= self.table.count {
+            return Err(Refusal::NoSuchPipe);
+        }
+        Ok(governs(&self.table, &self.report, pipe))
+    }
+}
+
+pub impl<M: PathMetric> FlowEngine for ColdEngine<M> as ColdEngineFlow {
+    ghost kept = { λ e. flow-of (e .table) };
+}
