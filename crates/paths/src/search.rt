@@ -16,8 +16,8 @@ use network::table::Table;
 use network::valve::Valve;
 
 // Labels `to` by a step from `from`, if that is strictly better than the label it has, and says whether it was.
-// A path with every junction is not extended: the step would lead back onto it, where no label can improve.
-// So no length is compared that was extended more often than a path has steps.
+// A path that has every junction is not extended: the step would lead back onto it, where no label can improve.
+// So every length that is compared has at most 63 extensions, which is as far as a metric promises anything.
 fn improve<M: PathMetric>(
     labels: &mut [Label<M>],
     from: usize,
