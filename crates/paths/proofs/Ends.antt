@@ -1,21 +1,19 @@
 -- Rounds, and what the labels say at the end.
 use mathlib.Core.Path.{_≡_, refl, sym, ap, subst, _∙_}
-use mathlib.Core.List.{List, [], _∷_, map}
-use mathlib.Core.Logic.{_⊎_, inl, inr}
-use Prim.Native.Nat.{ℕ, zero, suc, _+_, _≤_, _<_}
+use mathlib.Core.List.{List, [], _∷_}
+use Prim.Native.Nat.{ℕ, suc, _≤_, _<_}
 use native.Mathlib.Omega.{arith}
 use lib.ListN.{length}
 use Rattle.std.specs.shelf.Lists.{All}
 use Rattle.std.specs.declared.option.Option.{Option}
 use Rattle.std.specs.declared.option.Option.the-variants.{Some, None}
-use Rattle.std.proofs.shelf.Tests.{cases-eq}
 use Rattle.network.specs.declared.step.Step.{Step}
 use Rattle.network.specs.Network.{Network}
 use Rattle.network.specs.Residual.{tail, head, weight, Residual}
-use Rattle.network.specs.Paths.{Fresh, Path}
-use Rattle.paths.specs.Metrics.{InRange, Laws}
+use Rattle.network.specs.Paths.{Path}
+use Rattle.paths.specs.Metrics.{Laws}
 use Rattle.paths.specs.BestPaths.{length-of, Chain}
-use Rattle.paths.specs.Searches.{Over, Witness, Rooted, Inv}
+use Rattle.paths.specs.Searches.{Inv}
 use Rattle.paths.proofs.Walks.{Sound, range-path, some-length}
 use Rattle.paths.proofs.Relaxing.{range}
 

@@ -1,14 +1,13 @@
 -- In range, the number of pipes is small.
-use mathlib.Core.Path.{_≡_, refl, sym, ap, subst, _∙_}
-use mathlib.Core.Bool.{Bool, true, false, cond}
+use mathlib.Core.Path.{_≡_, ap, _∙_}
 use mathlib.Core.Logic.{_⊎_, inl, inr}
-use Prim.Native.Nat.{ℕ, zero, suc, _≤_, _<_}
+use Prim.Native.Nat.{ℕ, zero, suc, _≤_}
 use native.Mathlib.Omega.{arith}
 use lib.Dec.{eqb}
-use Rattle.std.proofs.shelf.Tests.{cases-bool, eqb-true, cond-true, cond-false}
+use Rattle.std.proofs.shelf.Tests.{cases-bool, cond-true, cond-false}
 use Rattle.paths.specs.Metrics.{Got, begun, longer, InRange}
-use Rattle.paths.specs.Widths.{Width, unbounded, width, narrowed, width-of}
-use Rattle.paths.specs.Fews.{Few, no-few, few, Fewer, lengthened, few-of, few-laws}
+use Rattle.paths.specs.Widths.{Width, unbounded, narrowed, width-of}
+use Rattle.paths.specs.Fews.{Few, no-few, few, lengthened, few-of}
 
 got-few : (n : ℕ) (l : Few) → Got (few 0 unbounded) lengthened n l → (l ≡ no-few) ⊎ ((p : ℕ) × (a : Width) × (l ≡ few p a) × (p ≤ n))
 got-few n l (begun e) = inr (0, unbounded, e, omega arith)

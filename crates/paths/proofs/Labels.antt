@@ -1,14 +1,12 @@
 -- Labels in a list, and what the tests of a search tell.
 use mathlib.Core.Path.{_≡_, refl, sym, ap, subst, _∙_}
-use mathlib.Core.Bool.{Bool, true, false}
-use mathlib.Core.List.{List, [], _∷_, _++_, map}
-use mathlib.Core.Logic.{_⊎_, inl, inr}
-use Prim.Native.Nat.{ℕ, zero, suc, _+_, _-_, _≤_, _<_}
-use native.Mathlib.Omega.{arith}
-use lib.ListN.{length, getD, set, length-map, length-set}
+use mathlib.Core.Bool.{Bool}
+use mathlib.Core.List.{List, map}
+use mathlib.Core.Logic.{inl, inr}
+use Prim.Native.Nat.{ℕ, suc, _≤_, _<_}
+use lib.ListN.{length, getD, set, length-map}
 use Rattle.std.specs.Orderings.{Decides}
-use Rattle.std.specs.declared.option.Option.{Option}
-use Rattle.std.specs.declared.option.Option.the-variants.{Some, None}
+use Rattle.std.specs.declared.option.Option.the-variants.{None}
 use Rattle.std.proofs.shelf.Tests.{cases-eq, cases-lt}
 use Rattle.std.proofs.shelf.Lists.{getD-map, map-set, getD-set-same, getD-set-other, getD-past}
 use Rattle.paths.specs.declared.label.Label.{Label}
@@ -70,7 +68,7 @@ module _ {Λ : Type 0} {good : Λ → Λ → Type 0} {start none : Λ} {extended
   range-extended l w k (inr h) = inr (longer l w h k refl)
 
   -- what a test of an extension tells: the length A, stored as a, and extended to y, is compared with B, stored as b
-  pub tested : (A B a b y : Λ) (w : ℕ) (r : Bool) → A ≡ a → B ≡ b
+  tested : (A B a b y : Λ) (w : ℕ) (r : Bool) → A ≡ a → B ≡ b
       → InRange start none extended 62 A → InRange start none extended 63 B → w ≤ 60000
       → (InRange start none extended 63 a → w ≤ 60000 → y ≡ extended a w)
       → (InRange start none extended 63 b → InRange start none extended 63 y → Decides r (good b y))
@@ -93,3 +91,14 @@ module _ {Λ : Type 0} {good : Λ → Λ → Type 0} {start none : Λ} {extended
       let t : Decides r (good z a) = d (inl ez) ga′ in
       let u : Decides r (good none A) = subst (λ (y : Λ). Decides r (good y A)) ez (subst (λ (y : Λ). Decides r (good z y)) (sym ea) t) in
       ((λ e. laws .same A none (laws .none-worst A) (u .0 e)), (λ e. u .1 (subst (λ (y : Λ). good none y) (sym e) (laws .itself none))))
+
+-- the same of labels: that at u, which is l, is extended to y, and compared with that at v
+pub tried : {L Λ : Type 0} (means : L → Λ) {good : Λ → Λ → Type 0} {start none : Λ} {extended : Λ → ℕ → Λ} (laws : Laws good start none extended) (ls : List (Label L)) (u v c : ℕ) (l m : Label L) (y : L) (r : Bool)
+    → u < length ls → v < length ls → l ≡ getD ls u l
+    → InRange start none extended 62 (length-at means none ls u) → InRange start none extended 63 (length-at means none ls v) → c ≤ 60000
+    → (InRange start none extended 63 (means (l .length)) → c ≤ 60000 → means y ≡ extended (means (l .length)) c)
+    → (InRange start none extended 63 (means (getD ls v m .length)) → InRange start none extended 63 (means y) → Decides r (good (means (getD ls v m .length)) (means y)))
+    → (means y ≡ extended (length-at means none ls u) c) × Decides r (good (length-at means none ls v) (extended (length-at means none ls u) c))
+tried means {good} {start} {none} {extended} laws ls u v c l m y r hu hv e =
+    tested laws (length-at means none ls u) (length-at means none ls v) (means (l .length)) (means (getD ls v m .length)) (means y) c r
+    (at-read (λ l. means (l .length)) none ls u l hu e) (at-getD (λ l. means (l .length)) none ls v m hv)

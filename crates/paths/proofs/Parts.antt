@@ -1,8 +1,8 @@
 -- An answer in the first labels of a longer row is one in the row.
-use mathlib.Core.Path.{_≡_, refl, sym, ap, subst, _∙_}
+use mathlib.Core.Path.{_≡_, ap, _∙_}
 use mathlib.Core.List.{List, [], _∷_, _++_, map, map-append}
-use mathlib.Core.Logic.{_⊎_, inl, inr}
-use Prim.Native.Nat.{ℕ, _≤_, _<_}
+use mathlib.Core.Logic.{inl, inr}
+use Prim.Native.Nat.{ℕ, _<_}
 use native.Mathlib.Omega.{arith}
 use lib.ListN.{length, getD, length-map}
 use Rattle.std.specs.declared.option.Option.{Option}
@@ -13,7 +13,7 @@ use Rattle.network.specs.declared.step.Step.{Step}
 use Rattle.network.specs.Network.{Network}
 use Rattle.network.specs.Residual.{tail}
 use Rattle.paths.specs.declared.label.Label.{Label}
-use Rattle.paths.specs.BestPaths.{via-at, Chain, BestAt, Answer}
+use Rattle.paths.specs.BestPaths.{via-at, Chain, Answer}
 use Rattle.paths.proofs.Ends.{some-none}
 
 module _ {L : Type 0} (xs ys : List (Label L)) where

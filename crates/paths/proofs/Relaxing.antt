@@ -1,18 +1,17 @@
 -- A relaxed step keeps what the search keeps.
 use mathlib.Core.Path.{_≡_, refl, sym, ap, subst, _∙_}
-use mathlib.Core.List.{List, [], _∷_, map}
+use mathlib.Core.List.{List, [], _∷_}
 use mathlib.Core.Logic.{_⊎_, inl, inr}
-use Prim.Native.Nat.{ℕ, zero, suc, _+_, _≤_, _<_}
+use Prim.Native.Nat.{ℕ, suc, _≤_, _<_}
 use native.Mathlib.Omega.{arith}
-use lib.ListN.{length}
 use Rattle.std.specs.shelf.Lists.{All}
 use Rattle.std.specs.declared.option.Option.{Option}
-use Rattle.std.specs.declared.option.Option.the-variants.{Some, None}
+use Rattle.std.specs.declared.option.Option.the-variants.{Some}
 use Rattle.std.proofs.shelf.Tests.{cases-eq}
 use Rattle.network.specs.declared.step.Step.{Step}
 use Rattle.network.specs.Network.{Network}
 use Rattle.network.specs.Residual.{tail, head, weight, size, Residual}
-use Rattle.network.specs.Paths.{Fresh, Path}
+use Rattle.network.specs.Paths.{Path}
 use Rattle.paths.specs.Metrics.{InRange, Laws}
 use Rattle.paths.specs.BestPaths.{length-of, Chain}
 use Rattle.paths.specs.Searches.{Over, Witness, Rooted, Inv}
@@ -55,14 +54,18 @@ module _ {Λ : Type 0} {good : Λ → Λ → Type 0} {start none : Λ} {extended
     pub absent : weight w f p ≡ 0 → good (at (head w p)) (extended (at (tail w p)) (weight w f p))
     absent e = subst (λ (l : Λ). good (at (head w p)) l) (sym (laws .none-at (at (tail w p)) (weight w f p) (range (tail w p)) (sound .light p inside) (inr e))) (laws .none-worst (at (head w p)))
 
-    -- nor does a step from a path that has every junction
+    -- nor does a step into the source
+    pub into-source : head w p ≡ a → good (at (head w p)) (extended (at (tail w p)) (weight w f p))
+    into-source e = subst (λ (l : Λ). good l (extended (at (tail w p)) (weight w f p))) (sym (ap at e ∙ inv .source)) (laws .start-best _)
+
+    -- nor a step from a path that has every junction
     pub full : w .junctions ≤ suc (count (tail w p)) → good (at (head w p)) (extended (at (tail w p)) (weight w f p))
     full k = elim (inv .reached (tail w p)) [
       | inl e ↦ subst (λ (l : Λ). good (at (head w p)) l) (sym (laws .none-at (at (tail w p)) (weight w f p) (range (tail w p)) (sound .light p inside) (inl e))) (laws .none-worst (at (head w p)))
       | inr r ↦ elim (on-path (head w p) (r .0 .steps) (tail w p) (r .0 .leads) (r .0 .over)) [
         | inl g ↦ laws .trans _ _ _ (subst (λ (l : Λ). good (at (head w p)) l) (sym (r .0 .is)) g) slower
         | inr all ↦ elim (cases-eq (head w p) a) [
-          | inl e ↦ subst (λ (l : Λ). good l (extended (at (tail w p)) (weight w f p))) (sym (ap at e ∙ inv .source)) (laws .start-best _)
+          | inl e ↦ into-source e
           | inr n ↦ absurd (let c = r .0 .counted in let m = missing sound a a-in (r .0 .steps) (tail w p) (head w p) (r .0 .leads) (sound .joins p inside .1) n all in omega arith)
         ]
       ]
@@ -75,8 +78,7 @@ module _ {Λ : Type 0} {good : Λ → Λ → Type 0} {start none : Λ} {extended
         strict (subst (λ (l : Λ). good (at (head w p)) l) (sym z) (laws .none-worst (at (head w p))))
 
     not-source : head w p ≡ a → ⊥
-    not-source e =
-        strict (subst (λ (l : Λ). good l (extended (at (tail w p)) (weight w f p))) (sym (ap at e ∙ inv .source)) (laws .start-best _))
+    not-source e = strict (into-source p (pres .inside) e)
 
     tail-reached : Witness w f a good start extended at count (tail w p) × Rooted w a via (tail w p)
     tail-reached = elim (inv .reached (tail w p)) [ inl e ↦ absurd (not-none e) | inr r ↦ r ]

@@ -1,27 +1,25 @@
 -- One pipe, one round and the rounds, over the labels as they are stored.
 use mathlib.Core.Path.{_≡_, refl, sym, ap, ap₂, subst, _∙_}
-use mathlib.Core.Bool.{Bool, true, false, _||_}
-use mathlib.Core.List.{List, [], _∷_, map}
+use mathlib.Core.Bool.{Bool, false, _||_}
+use mathlib.Core.List.{List, [], _∷_}
 use mathlib.Core.Logic.{_⊎_, inl, inr}
-use Prim.Native.Nat.{ℕ, zero, suc, _+_, _-_, _≤_, _<_}
+use Prim.Native.Nat.{ℕ, suc, _+_, _≤_, _<_}
 use native.Mathlib.Omega.{arith}
-use lib.ListN.{length, getD, set}
-use Rattle.std.specs.declared.option.Option.{Option}
-use Rattle.std.specs.declared.option.Option.the-variants.{Some, None}
-use Rattle.std.proofs.shelf.Tests.{cases-eq, or-parts, true≢false}
+use lib.ListN.{length, getD}
+use Rattle.std.proofs.shelf.Tests.{cases-eq, or-parts}
 use Rattle.network.specs.declared.step.Direction.{Direction}
 use Rattle.network.specs.declared.step.Direction.the-variants.{Along, Against}
 use Rattle.network.specs.declared.step.Step.{Step}
 use Rattle.network.specs.Network.{Network}
-use Rattle.network.specs.Residual.{tail, head, weight, size, Residual}
+use Rattle.network.specs.Residual.{tail, head, weight, size}
 use Rattle.network.specs.Paths.{Path}
 use Rattle.paths.specs.declared.label.Label.{Label}
-use Rattle.paths.specs.Metrics.{InRange, Laws}
-use Rattle.paths.specs.BestPaths.{length-of, via-at, Chain, BestAt, Answer}
-use Rattle.paths.specs.Searches.{length-at, steps-at, Kept, Relaxed, Improves, Follows, Done, Blank, Best, Within}
+use Rattle.paths.specs.Metrics.{Laws}
+use Rattle.paths.specs.BestPaths.{length-of, via-at, BestAt}
+use Rattle.paths.specs.Searches.{length-at, Kept, Relaxed, Follows, Done, Blank, Best, Within}
 use Rattle.paths.proofs.Walks.{Sound, short}
 use Rattle.paths.proofs.Labels.{at-read}
-use Rattle.paths.proofs.Relaxing.{range, absent}
+use Rattle.paths.proofs.Relaxing.{range}
 use Rattle.paths.proofs.Ends.{some-none, settled, round-more, exact, no-way, chain-leads}
 
 step-is : (p : Step) (k : ℕ) (d : Direction) → k ≡ p .pipe → d ≡ p .direction → record { pipe = k; direction = d } ≡ p

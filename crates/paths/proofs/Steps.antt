@@ -1,27 +1,23 @@
 -- One step, over the labels as they are stored.
-use mathlib.Core.Path.{_≡_, refl, sym, ap, ap₂, subst, _∙_}
-use mathlib.Core.Bool.{Bool, true, false, _||_}
-use mathlib.Core.List.{List, [], _∷_, map}
+use mathlib.Core.Path.{_≡_, refl, sym, subst, _∙_}
+use mathlib.Core.Bool.{Bool, true, false}
+use mathlib.Core.List.{List}
 use mathlib.Core.Logic.{_⊎_, inl, inr}
-use Prim.Native.Nat.{ℕ, zero, suc, _+_, _-_, _≤_, _<_}
+use Prim.Native.Nat.{ℕ, suc, _<_}
 use native.Mathlib.Omega.{arith}
-use lib.ListN.{length, getD, set}
-use Rattle.std.specs.declared.option.Option.{Option}
+use lib.ListN.{length, set}
 use Rattle.std.specs.declared.option.Option.the-variants.{Some, None}
-use Rattle.std.proofs.shelf.Tests.{cases-eq, or-parts, true≢false}
-use Rattle.network.specs.declared.step.Direction.{Direction}
-use Rattle.network.specs.declared.step.Direction.the-variants.{Along, Against}
+use Rattle.std.proofs.shelf.Tests.{true≢false}
 use Rattle.network.specs.declared.step.Step.{Step}
 use Rattle.network.specs.Network.{Network}
 use Rattle.network.specs.Residual.{tail, head, weight, size, Residual}
-use Rattle.network.specs.Paths.{Path}
 use Rattle.paths.specs.declared.label.Label.{Label}
-use Rattle.paths.specs.Metrics.{InRange, Laws}
-use Rattle.paths.specs.BestPaths.{length-of, via-at, Chain, BestAt, Answer}
-use Rattle.paths.specs.Searches.{length-at, steps-at, Kept, Relaxed, Improves, Follows, Done, Blank, Best, Within}
+use Rattle.paths.specs.Metrics.{Laws}
+use Rattle.paths.specs.BestPaths.{via-at}
+use Rattle.paths.specs.Searches.{length-at, steps-at, Kept, Relaxed, Improves, Follows}
 use Rattle.paths.proofs.Walks.{Sound}
 use Rattle.paths.proofs.Labels.{at-set-same, at-set-other}
-use Rattle.paths.proofs.Relaxing.{range, absent, full, relaxed, better}
+use Rattle.paths.proofs.Relaxing.{absent, into-source, full, relaxed, better}
 
 module _ {L Λ : Type 0} (means : L → Λ) {good : Λ → Λ → Type 0} {start none : Λ} {extended : Λ → ℕ → Λ} (laws : Laws good start none extended)
     {w : Network} {f : List ℕ} (sound : Sound w f) (a : ℕ) (a-in : a < w .junctions) (ls : List (Label L)) (wide : length ls ≡ w .junctions) (kept : Kept w f a means good start none extended ls) where
@@ -67,3 +63,9 @@ module _ {L Λ : Type 0} (means : L → Λ) {good : Λ → Λ → Type 0} {start
         (subst (λ (z : ℕ). Improves means good none extended ls (tail w p) (head w p) z p ls′ r) ec
         (subst (λ (z : ℕ). Improves means good none extended ls (tail w p) z c p ls′ r) ev
         (subst (λ (z : ℕ). Improves means good none extended ls z v c p ls′ r) eu h)))
+
+    -- a step that is absent, or into the source, need not be tried
+    pub skipped : (v c : ℕ) → v ≡ head w p → c ≡ weight w f p → (c ≡ 0) ⊎ ((c ≡ 0 → ⊥) × (v ≡ a))
+        → Follows w f a means good start none extended ls ls false × Relaxed w f means good none extended ls ls p
+    skipped v c ev ec (inl z) = (follows-same, absent laws sound a a-in kept p inside (sym ec ∙ z))
+    skipped v c ev ec (inr k) = (follows-same, into-source laws sound a a-in kept p inside (sym ev ∙ k .1))

@@ -1,8 +1,7 @@
 -- The steps of a table.
-use mathlib.Core.Path.{_≡_, refl, sym, ap, ap₂, subst, _∙_}
-use mathlib.Core.List.{List, [], _∷_, map}
-use mathlib.Core.Logic.{_⊎_, inl, inr}
-use Prim.Native.Nat.{ℕ, zero, suc, _+_, _-_, _≤_, _<_}
+use mathlib.Core.Path.{_≡_, sym, ap, ap₂, subst, _∙_}
+use mathlib.Core.List.{List}
+use Prim.Native.Nat.{ℕ, _-_, _≤_, _<_}
 use native.Mathlib.Omega.{arith}
 use lib.ListN.{length, getD, take, length-map, length-take}
 use lib.Seq.{getD-take}
@@ -17,8 +16,9 @@ use Rattle.network.specs.declared.table.Table.{Table}
 use Rattle.network.specs.Valves.{room}
 use Rattle.network.specs.Rows.{no-row, Sound-flow, Joined, Limited}
 use Rattle.network.specs.Pipes.{pipe-of, network-of, flow-of}
-use Rattle.network.specs.Network.{Pipe}
-use Rattle.network.specs.Residual.{start-by, end-by, weight-by, nowhere, pipe, size, carried, tail, head, weight, Residual}
+use Rattle.network.specs.Residual.{start-by, end-by, weight-by, nowhere, pipe, size, carried, tail, head, weight}
+use Rattle.paths.specs.declared.label.Label.{Label}
+use Rattle.paths.specs.Searches.{Done}
 use Rattle.paths.proofs.Walks.{Sound}
 
 -- what code reads past the end
@@ -66,25 +66,35 @@ module _ (t : Table) where
       ∙ ap (λ (r : Row). r .flow) (getD-take (t .count) (t .rows) k read-row h)
 
   module _ (s : Step) (h : s .pipe < t .count) where
-    pub tail-is : tail (network-of t) s ≡ start-by (s .direction) (pipe-of (getD (t .rows) (s .pipe) read-row))
-    tail-is = ap (start-by (s .direction)) (pipe-is (s .pipe) h)
+    tail-is : start-by (s .direction) (pipe-of (getD (t .rows) (s .pipe) read-row)) ≡ tail (network-of t) s
+    tail-is = sym (ap (start-by (s .direction)) (pipe-is (s .pipe) h))
 
-    pub head-is : head (network-of t) s ≡ end-by (s .direction) (pipe-of (getD (t .rows) (s .pipe) read-row))
-    head-is = ap (end-by (s .direction)) (pipe-is (s .pipe) h)
+    head-is : end-by (s .direction) (pipe-of (getD (t .rows) (s .pipe) read-row)) ≡ head (network-of t) s
+    head-is = sym (ap (end-by (s .direction)) (pipe-is (s .pipe) h))
 
-    pub weight-is : weight (network-of t) (flow-of t) s ≡ weight-by (s .direction) (pipe-of (getD (t .rows) (s .pipe) read-row)) (getD (t .rows) (s .pipe) read-row .flow)
-    weight-is = ap₂ (weight-by (s .direction)) (pipe-is (s .pipe) h) (carried-is (s .pipe) h)
+    weight-is : weight-by (s .direction) (pipe-of (getD (t .rows) (s .pipe) read-row)) (getD (t .rows) (s .pipe) read-row .flow) ≡ weight (network-of t) (flow-of t) s
+    weight-is = sym (ap₂ (weight-by (s .direction)) (pipe-is (s .pipe) h) (carried-is (s .pipe) h))
+
+    -- what code reads
+    pub tail-read : (u : ℕ) → u ≡ start-by (s .direction) (pipe-of (getD (t .rows) (s .pipe) read-row)) → u ≡ tail (network-of t) s
+    tail-read u e = e ∙ tail-is
+
+    pub head-read : (u : ℕ) → u ≡ end-by (s .direction) (pipe-of (getD (t .rows) (s .pipe) read-row)) → u ≡ head (network-of t) s
+    head-read u e = e ∙ head-is
+
+    pub weight-read : (u : ℕ) → u ≡ weight-by (s .direction) (pipe-of (getD (t .rows) (s .pipe) read-row)) (getD (t .rows) (s .pipe) read-row .flow) → u ≡ weight (network-of t) (flow-of t) s
+    weight-read u e = e ∙ weight-is
 
     pub light-is : weight (network-of t) (flow-of t) s ≤ 60000
     light-is =
-        subst (λ (n : ℕ). n ≤ 60000) (sym weight-is)
+        subst (λ (n : ℕ). n ≤ 60000) weight-is
         (light-by (s .direction) (getD (t .rows) (s .pipe) read-row)
         (subst (λ (r : Row). Limited r) (sym (row-read (s .pipe) h)) (t .limited (s .pipe) h)) (sound-read (s .pipe) h))
 
     pub joins-is : (tail (network-of t) s < t .junctions) × (head (network-of t) s < t .junctions) × (tail (network-of t) s ≡ head (network-of t) s → ⊥)
     joins-is =
         let e = ends-read (s .direction) (s .pipe) h in
-        (let p = tail-is in let q = e .0 in omega arith, let p = head-is in let q = e .1 in omega arith, λ z. e .2 (sym tail-is ∙ z ∙ head-is))
+        (let p = tail-is in let q = e .0 in omega arith, let p = head-is in let q = e .1 in omega arith, λ z. e .2 (tail-is ∙ z ∙ sym head-is))
 
   pub inside-is : (s : Step) → s .pipe < size (network-of t) → s .pipe < t .count
   inside-is s h = let e = size-is in omega arith
@@ -97,16 +107,17 @@ module _ (t : Table) where
   }
 
   closed-absent : (s : Step) → s .pipe < t .count → getD (t .rows) (s .pipe) read-row .valve ≡ Closed → weight (network-of t) (flow-of t) s ≡ 0
-  closed-absent s h e = weight-is s h ∙ go (s .direction) (getD (t .rows) (s .pipe) read-row) e
+  closed-absent s h e = sym (weight-is s h) ∙ go (s .direction) (getD (t .rows) (s .pipe) read-row) e
     where
       go : (d : Direction) (r : Row) → r .valve ≡ Closed → weight-by d (pipe-of r) (r .flow) ≡ 0
       go Along r e = ap (λ (v : Valve). room v (r .limit - r .flow)) e
       go Against r e = ap (λ (v : Valve). room v (r .flow)) e
 
-  -- a closed pipe has no step
-  pub closed-no-step : (k : ℕ) → k < t .count → getD (t .rows) k read-row .valve ≡ Closed → (s : Step) → s .pipe ≡ k → Residual (network-of t) (flow-of t) s → ⊥
-  closed-no-step k h e s q r =
+  -- a closed pipe has no step to relax
+  pub done-closed : {L Λ : Type 0} (means : L → Λ) (good : Λ → Λ → Type 0) (none : Λ) (extended : Λ → ℕ → Λ) (ls : List (Label L)) (k : ℕ) → k < t .count → getD (t .rows) k read-row .valve ≡ Closed
+      → Done (network-of t) (flow-of t) means good none extended ls ls (λ j. j ≡ k)
+  done-closed means good none extended ls k h e s q r =
       let i : s .pipe < t .count = omega arith in
       let z : weight (network-of t) (flow-of t) s ≡ 0 = closed-absent s i (ap (λ (j : ℕ). getD (t .rows) j read-row .valve) q ∙ e) in
       let y = r .heavy in
-      omega arith
+      absurd (omega arith)

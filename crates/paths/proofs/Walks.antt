@@ -1,16 +1,15 @@
 -- Paths are short, and their lengths in range.
-use mathlib.Core.Path.{_≡_, refl, sym, ap, subst, _∙_}
+use mathlib.Core.Path.{_≡_, refl, sym, subst, _∙_}
 use mathlib.Core.List.{List, [], _∷_, map}
-use mathlib.Core.Logic.{_⊎_, inl, inr}
-use Prim.Native.Nat.{ℕ, zero, suc, _+_, _≤_, _<_}
+use mathlib.Core.Logic.{inl, inr}
+use Prim.Native.Nat.{ℕ, zero, suc, _≤_, _<_}
 use native.Mathlib.Omega.{arith}
 use lib.ListN.{length, length-map}
 use Rattle.std.specs.shelf.Lists.{All}
-use Rattle.std.proofs.shelf.Tests.{cases-eq}
 use Rattle.network.specs.declared.step.Step.{Step}
 use Rattle.network.specs.Network.{Network}
-use Rattle.network.specs.Residual.{tail, head, weight, size, Residual}
-use Rattle.network.specs.Paths.{Fresh, Path}
+use Rattle.network.specs.Residual.{tail, head, weight, size}
+use Rattle.network.specs.Paths.{Path}
 use Rattle.paths.specs.Metrics.{Got, begun, longer, InRange, Laws}
 use Rattle.paths.specs.BestPaths.{length-of}
 use Rattle.paths.proofs.Pigeonhole.{Apart, room}

@@ -1,11 +1,10 @@
 -- Ordering by the smallest weight first and then by fewer pipes breaks law 4.
-use mathlib.Core.Path.{_≡_, refl}
+use mathlib.Core.Path.{refl}
 use mathlib.Core.Logic.{inr}
-use Prim.Native.Nat.{ℕ, _≤_}
 use native.Mathlib.Omega.{arith}
-use Rattle.paths.specs.Metrics.{Got, begun, longer, InRange, Laws}
-use Rattle.paths.specs.Widths.{Width, unbounded, width}
-use Rattle.paths.specs.Fews.{Few, no-few, few, lengthened}
+use Rattle.paths.specs.Metrics.{begun, longer, InRange, Laws}
+use Rattle.paths.specs.Widths.{unbounded, width}
+use Rattle.paths.specs.Fews.{no-few, few, lengthened}
 use Rattle.paths.specs.WeightFirst.{Weight-first}
 
 one : InRange (few 0 unbounded) no-few lengthened 63 (few 1 (width 5))

@@ -1,14 +1,14 @@
 -- The path of fewest pipes: fewer is better, then the greater smallest weight.
-use mathlib.Core.Path.{_≡_, refl, sym, ap, ap₂, subst, _∙_}
-use mathlib.Core.Bool.{Bool, true, false, cond}
+use mathlib.Core.Path.{_≡_, refl, sym, ap, ap₂, _∙_}
+use mathlib.Core.Bool.{cond}
 use mathlib.Core.Logic.{_⊎_, inl, inr}
-use Prim.Native.Nat.{ℕ, zero, suc, min, _≤_, _<_}
+use Prim.Native.Nat.{ℕ, zero, suc, _<_}
 use native.Mathlib.Omega.{arith}
 use lib.Dec.{eqb}
-use Rattle.std.proofs.shelf.Tests.{cases-eq, cases-lt, cases-order}
+use Rattle.std.proofs.shelf.Tests.{cases-eq, cases-order}
 use Rattle.paths.specs.Metrics.{Laws}
 use Rattle.paths.specs.declared.fewest.Fewest.{Fewest}
-use Rattle.paths.specs.Widths.{Width, unbounded, width, Wider, narrowed, width-of, wider-trans, wider-total, wider-same, wider-keeps, width-laws}
+use Rattle.paths.specs.Widths.{Width, unbounded, Wider, narrowed, width-of, wider-trans, wider-total, wider-same, wider-keeps, width-laws}
 
 pub data Few : Type 0 where
   no-few : Few

@@ -4,6 +4,8 @@ ghost use Rattle.std.specs.Orderings.{Decides};
 ghost use Rattle.paths.specs.Metrics.{InRange, Laws};
 
 // How paths are measured. The type is a stored length, and `means` says which length it stands for.
+// Comparing and extending ask nothing. They promise their answer of none, and of lengths that were extended at most 63
+// times from the start by weights of at most 60,000: as far as the laws go, and as a path of 64 junctions can.
 pub trait PathMetric: Copy {
     ghost Lengths: { Type 0 };
 

@@ -31,10 +31,11 @@ pub fn weight_of(row: &Row, direction: Direction) -> u32
     requires { ⌜ Sound-flow (now row) ⌝ }
     ensures { λ r. ⌜ r ≡ weight-by direction (pipe-of (now (row .entry))) (now (row .entry) .flow) ⌝ }
 {
-    match (direction, row.valve) {
-        (Direction::Along, Valve::Open) => row.limit - row.flow,
-        (Direction::Along, Valve::Closed) => 0,
-        (Direction::Against, Valve::Open) => row.flow,
-        (Direction::Against, Valve::Closed) => 0,
+    match row.valve {
+        Valve::Closed => 0,
+        Valve::Open => match direction {
+            Direction::Along => row.limit - row.flow,
+            Direction::Against => row.flow,
+        },
     }
 }

@@ -16,8 +16,8 @@ use network::table::Table;
 use network::valve::Valve;
 
 // Labels `to` by a step from `from`, if that is strictly better than the label it has, and says whether it was.
-// A path with every junction is not extended: the step would lead back onto it, where no label can improve.
-// So no length is compared that was extended more often than a path has steps.
+// A path that has every junction is not extended: the step would lead back onto it, where no label can improve.
+// So every length that is compared has at most 63 extensions, which is as far as a metric promises anything.
 fn improve<M: PathMetric>(
     labels: &mut [Label<M>],
     from: usize,
@@ -49,7 +49,7 @@ fn improve<M: PathMetric>(
     }
 }
 
-// Relaxes one step.
+// Relaxes one step. An absent step improves nothing, nor does one into the source.
 fn relax<M: PathMetric>(table: &Table, source: usize, step: Step, labels: &mut [Label<M>]) -> bool
     requires wide { ⌜ length (now labels) ≡ now table .junctions ⌝ }
     requires source { ⌜ source < now table .junctions ⌝ }
@@ -59,17 +59,12 @@ fn relax<M: PathMetric>(table: &Table, source: usize, step: Step, labels: &mut [
     ensures relaxed { λ _. ⌜ Relaxed (network-of (now (table .entry))) (flow-of (now (table .entry))) means good none extended (now (labels .entry)) (now (labels .exit)) step ⌝ }
 {
     let row = table.rows[step.pipe];
+    let to = head_of(&row, step.direction);
     let amount = weight_of(&row, step.direction);
-    if amount == 0 {
+    if amount == 0 || to == source {
         return false;
     }
-    improve(
-        labels,
-        tail_of(&row, step.direction),
-        head_of(&row, step.direction),
-        amount,
-        step,
-    )
+    improve(labels, tail_of(&row, step.direction), to, amount, step)
 }
 
 // Relaxes both steps of a pipe, if it is open.

@@ -1,11 +1,10 @@
-use mathlib.Core.Path.{_≡_, refl, sym, _∙_}
-use Prim.Native.Nat.{ℕ, _<_, _≤_}
+use Prim.Native.Nat.{_<_}
 use native.Mathlib.Omega.{arith}
 use Rattle.network.specs.Pipes.{network-of}
 use Rattle.network.specs.Residual.{size}
-use Rattle.paths.proofs.Tables.{sound, sound-read, ends-read, tail-is, head-is, weight-is, light-is, size-is}
-use Rattle.paths.proofs.Relaxing.{range, range-short, absent}
-use Rattle.paths.proofs.Steps.{follows-same, stepped}
+use Rattle.paths.proofs.Tables.{sound, sound-read, ends-read, tail-read, head-read, weight-read, light-is, size-is}
+use Rattle.paths.proofs.Relaxing.{range, range-short}
+use Rattle.paths.proofs.Steps.{skipped, stepped}
 use Rattle.paths.proofs.search.relax.Needs as need
 
 pub weight-of-amount-requires : need.weight-of-amount-requires
@@ -15,12 +14,12 @@ pub returns-then-amount-eq0 : need.returns-then-amount-eq0
 returns-then-amount-eq0 g c =
     let m = g .M·PathMetric in
     let t = c .args .table .now in
-    let e = weight-is t (c .args .step) (c .pre .inside) in
+    let s = c .args .step in
+    let h = c .pre .inside in
     let i : c .args .step .pipe < size (network-of t) = (let k = size-is t in let h = c .pre .inside in omega arith) in
-    record {
-      follows = follows-same (m .means) (m .laws) (sound t) (c .args .source) (c .pre .source) (c .args .labels .now) (c .pre .wide) (c .pre .kept);
-      relaxed = absent (m .laws) (sound t) (c .args .source) (c .pre .source) (c .pre .kept) (c .args .step) i (e ∙ sym (c .weight-of-amount .ensures) ∙ c .if-amount-eq0 .taken);
-    }
+    let r = skipped (m .means) (m .laws) (sound t) (c .args .source) (c .pre .source) (c .args .labels .now) (c .pre .wide) (c .pre .kept) s i (c .head-of-to .result) (c .weight-of-amount .result)
+    (head-read t s h (c .head-of-to .result) (c .head-of-to .ensures)) (weight-read t s h (c .weight-of-amount .result) (c .weight-of-amount .ensures)) (c .then-amount-eq0 .either) in
+    record { follows = r .0; relaxed = r .1 }
 
 pub improve-requires : need.improve-requires
 improve-requires g c κs =
@@ -28,17 +27,16 @@ improve-requires g c κs =
     let t = c .args .table .now in
     let e = ends-read t (c .args .step .direction) (c .args .step .pipe) (c .pre .inside) in
     let l = light-is t (c .args .step) (c .pre .inside) in
-    let q = weight-is t (c .args .step) (c .pre .inside) in
+    let z = weight-read t (c .args .step) (c .pre .inside) (c .weight-of-amount .result) (c .weight-of-amount .ensures) in
     let x = c .tail-of .ensures in
-    let y = c .head-of .ensures in
-    let z = c .weight-of-amount .ensures in
+    let y = c .head-of-to .ensures in
     let wide = c .pre .wide in
     record {
       inside = omega arith;
       onto = omega arith;
       light = omega arith;
       known = λ h. range-short (m .laws) (sound t) (c .args .source) (c .pre .source) (c .pre .kept) (c .tail-of .result) (omega arith);
-      told = range (m .laws) (sound t) (c .args .source) (c .pre .source) (c .pre .kept) (c .head-of .result);
+      told = range (m .laws) (sound t) (c .args .source) (c .pre .source) (c .pre .kept) (c .head-of-to .result);
     }
 
 pub returns : need.returns
@@ -49,7 +47,7 @@ returns g c =
     let h = c .pre .inside in
     let i : c .args .step .pipe < size (network-of t) = (let k = size-is t in let h = c .pre .inside in omega arith) in
     let r = stepped (m .means) (m .laws) (sound t) (c .args .source) (c .pre .source) (c .args .labels .now) (c .pre .wide) (c .pre .kept) s i
-    (c .tail-of .result) (c .head-of .result) (c .weight-of-amount .result)
-    (c .tail-of .ensures ∙ sym (tail-is t s h)) (c .head-of .ensures ∙ sym (head-is t s h)) (c .weight-of-amount .ensures ∙ sym (weight-is t s h))
+    (c .tail-of .result) (c .head-of-to .result) (c .weight-of-amount .result)
+    (tail-read t s h (c .tail-of .result) (c .tail-of .ensures)) (head-read t s h (c .head-of-to .result) (c .head-of-to .ensures)) (weight-read t s h (c .weight-of-amount .result) (c .weight-of-amount .ensures))
     (c .improve .last .labels) (c .improve .result) (c .improve .ensures) in
     record { follows = r .0; relaxed = r .1 }

@@ -1,7 +1,4 @@
-use mathlib.Core.Path.{_≡_, refl, sym, subst}
-use Prim.Native.Nat.{ℕ, _<_, _≤_}
-use native.Mathlib.Omega.{arith}
-use Rattle.paths.proofs.Tables.{sound, closed-no-step}
+use Rattle.paths.proofs.Tables.{sound, done-closed}
 use Rattle.paths.proofs.Steps.{follows-same}
 use Rattle.paths.proofs.Rounds.{follows-trans, done-both}
 use Rattle.paths.proofs.search.relax_pipe.Needs as need
@@ -12,7 +9,7 @@ returns-in-Closed g c =
     let t = c .args .table .now in
     record {
       follows = follows-same (m .means) (m .laws) (sound t) (c .args .source) (c .pre .source) (c .args .labels .now) (c .pre .wide) (c .pre .kept);
-      done = λ s q r. absurd (closed-no-step t (c .args .pipe) (c .pre .inside) (c .in-Closed .is) s q r);
+      done = done-closed t (m .means) (m .good) (m .none) (m .extended) (c .args .labels .now) (c .args .pipe) (c .pre .inside) (c .in-Closed .is);
     }
 
 pub returns-in-Open : need.returns-in-Open

@@ -1,7 +1,5 @@
-use mathlib.Core.Path.{_≡_, refl, sym}
 use native.Mathlib.Omega.{arith}
-use Prim.Native.Nat.{ℕ, suc, _-_, _<_, _≤_}
-use lib.ListN.{length}
+use Prim.Native.Nat.{_-_}
 use Rattle.paths.proofs.Tables.{sound, size-is}
 use Rattle.paths.proofs.Rounds.{within-more, best-still, best-all}
 use Rattle.paths.proofs.search.settle.Needs as need

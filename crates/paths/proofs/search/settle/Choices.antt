@@ -1,4 +1,4 @@
-use Prim.Native.Nat.{ℕ, _-_, _<_}
+use Prim.Native.Nat.{_-_}
 use Rattle.network.specs.Pipes.{network-of, flow-of}
 use Rattle.paths.specs.Searches.{Kept, Within}
 use Rattle.paths.proofs.search.settle.Given as given

@@ -1,8 +1,6 @@
-use mathlib.Core.Path.{_≡_, refl, sym, subst}
-use Prim.Native.Nat.{ℕ, _<_, _≤_}
-use native.Mathlib.Omega.{arith}
+use mathlib.Core.Path.{_≡_}
+use Prim.Native.Nat.{_<_}
 use Rattle.paths.proofs.Tables.{sound}
-use Rattle.paths.proofs.Steps.{follows-same}
 use Rattle.paths.proofs.Rounds.{follows-trans, done-later, done-earlier, done-more}
 use Rattle.paths.proofs.search.sweep.Needs as need
 

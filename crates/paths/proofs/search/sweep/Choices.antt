@@ -1,5 +1,4 @@
-use mathlib.Core.Path.{_≡_}
-use Prim.Native.Nat.{ℕ, _<_}
+use Prim.Native.Nat.{_<_}
 use Rattle.network.specs.Pipes.{network-of, flow-of}
 use Rattle.paths.specs.Searches.{Follows, Done}
 use Rattle.paths.proofs.search.sweep.Given as given
