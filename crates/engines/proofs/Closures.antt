@@ -20,7 +20,7 @@ use Rattle.network.specs.Reaches.{Edge, Reaches, here, on, Reached}
 use Rattle.network.specs.Residual.{pipe, tail, head, weight-by, Residual}
 use Rattle.network.proofs.Reached.{sealed-reach, reach-step}
 use Rattle.network.proofs.Words.{has-or, has-power, has-other}
-use Rattle.paths.proofs.Tables.{read-row, size-is, pipe-is, weight-is, ends-read}
+use Rattle.paths.proofs.Tables.{read-row, size-is, pipe-is, weight-read, ends-read}
 use Rattle.engines.specs.Closures.{Connects, Closure, near-by, far-by, near-end, far-end, From, Spread, Crossed}
 
 module _ (w : Network) (f : List ℕ) where
@@ -111,10 +111,10 @@ module _ (t : Table) (sense : Direction) (s : Step) (h : s .pipe < t .count) whe
 
   module _ (seen near weight : ℕ) (near-eq : near ≡ near-by sense (s .direction) (pipe-of (getD (t .rows) (s .pipe) read-row))) (weight-eq : weight ≡ weight-by (s .direction) (pipe-of (getD (t .rows) (s .pipe) read-row)) (getD (t .rows) (s .pipe) read-row .flow)) where
     heavy : Residual (network-of t) (flow-of t) s → 0 < weight
-    heavy r = omega (arith, r .heavy, weight-is t s h)
+    heavy r = omega (arith, r .heavy, weight-read t s h _ refl)
 
     residual : 0 < weight → Residual (network-of t) (flow-of t) s
-    residual l = record { inside = omega (arith, size-is t); heavy = omega (arith, weight-is t s h) }
+    residual l = record { inside = omega (arith, size-is t); heavy = omega (arith, weight-read t s h _ refl) }
 
     -- a step that is residual, with its near end in the set
     pub crosses : (far x : ℕ) → far ≡ far-by sense (s .direction) (pipe-of (getD (t .rows) (s .pipe) read-row)) → x ≡ 2 ^ far → 0 < weight → has seen near ≡ true →

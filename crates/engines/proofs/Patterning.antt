@@ -13,7 +13,7 @@ use Rattle.network.specs.Pipes.{pipe-of}
 use Rattle.network.specs.Rows.{no-row, Each, Joined, Limited, Dry}
 use Rattle.formats.specs.declared.setting.Setting.{Setting}
 use Rattle.formats.specs.Letters.{setting-of}
-use Rattle.engines.specs.Verdicts.{set-by, lettered}
+use Rattle.interface.specs.Verdicts.{set-by, lettered}
 
 lettered-push : (bs : List ℕ) (ps : List Pipe) (b : ℕ) (p : Pipe) → length bs ≡ length ps → lettered (bs ++ b ∷ []) (ps ++ p ∷ []) ≡ lettered bs ps ++ set-by (setting-of b) p ∷ []
 lettered-push [] [] b p e = refl

@@ -23,7 +23,7 @@ use Rattle.network.specs.Rows.{no-row, Each, Joined, Limited, Sound-flow}
 use Rattle.network.specs.Valves.{room}
 use Rattle.network.proofs.Rules.{each-set}
 use Rattle.engines.specs.Chains.{Takes}
-use Rattle.paths.proofs.Tables.{read-row, sound-read, carried-is, weight-is}
+use Rattle.paths.proofs.Tables.{read-row, sound-read, carried-is, weight-read}
 
 along-room : (v : Valve) (l x c : ℕ) → x ≤ room v l → c ≤ room v (l - x) → x + c ≤ room v l
 along-room Open l x c h k = omega arith

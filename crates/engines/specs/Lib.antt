@@ -2,5 +2,4 @@ pub mod Augmentations
 pub mod Chains
 pub mod Closures
 pub mod Surveys
-pub mod Verdicts
 pub mod Balances

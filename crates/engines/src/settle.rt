@@ -9,7 +9,7 @@ ghost use Rattle.network.specs.Rows.{Joined, Limited, Dry};
 ghost use Rattle.formats.specs.Letters.{setting-of};
 ghost use Rattle.engines.specs.Augmentations.{Fills};
 ghost use Rattle.engines.specs.Balances.{Balanced};
-ghost use Rattle.engines.specs.Verdicts.{set-by, patterned};
+ghost use Rattle.interface.specs.Verdicts.{set-by, patterned};
 use crate::fill::fill;
 use crate::survey;
 use formats::letters::read_setting;

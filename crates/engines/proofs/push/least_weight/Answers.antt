@@ -11,7 +11,7 @@ use Rattle.network.specs.Residual.{tail, weight}
 use Rattle.paths.specs.declared.label.Label.{Label}
 use Rattle.paths.specs.BestPaths.{via-at}
 use Rattle.paths.proofs.Labels.{at-read}
-use Rattle.paths.proofs.Tables.{sound-read, tail-is, weight-is, ends-read}
+use Rattle.paths.proofs.Tables.{sound-read, tail-read, weight-read, ends-read}
 use Rattle.engines.specs.Augmentations.{least-weight}
 use Rattle.engines.specs.Chains.{spelled}
 use Rattle.engines.proofs.Chained.{spelled-none, turn-end, turn-more, turn-all}
@@ -65,9 +65,9 @@ loop-turn-again g c =
     let s = c .in-Some .step in
     let inside : c .loop-turn .at < length (c .args .labels .now) = omega (arith, c .loop-turn .inv .0, c .pre .places) in
     let all = turn-all w ls n k (c .loop-turn .at) (c .index-labels-at .result) (c .loop-turn-test .taken) inside (c .index-labels-at .is) s (c .in-Some .is) (λ s. s .pipe < t .count) (c .loop-turn .inv .1) in
-    let e : c .tail-of-at .result ≡ tail (network-of (c .args .table .now)) (c .in-Some .step) = c .tail-of-at .ensures ∙ sym (tail-is t s (all .0)) in
+    let e : c .tail-of-at .result ≡ tail (network-of (c .args .table .now)) (c .in-Some .step) = c .tail-of-at .ensures ∙ tail-read t s (all .0) _ refl in
     let m : c .min-least .result ≡ min (c .loop-turn .least) (weight (network-of (c .args .table .now)) (flow-of (c .args .table .now)) (c .in-Some .step)) =
-        c .min-least .ensures ∙ ap (min (c .loop-turn .least)) (c .weight-of .ensures ∙ sym (weight-is t s (all .0))) in
+        c .min-least .ensures ∙ ap (min (c .loop-turn .least)) (c .weight-of .ensures ∙ weight-read t s (all .0) _ refl) in
     let more = turn-more w ls n k (c .loop-turn .at) (c .index-labels-at .result) (c .loop-turn-test .taken) inside (c .index-labels-at .is) s (c .in-Some .is) in
     (subst (λ (x : ℕ). x < t .junctions) (sym (c .tail-of-at .ensures)) (ends-read t (s .direction) (s .pipe) (all .0) .0),
      subst (λ (x : ℕ). All (λ s. s .pipe < t .count) (spelled w (via-at ls) (n - (k + 1)) x)) (sym e) (all .1),

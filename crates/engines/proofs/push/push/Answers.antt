@@ -13,7 +13,7 @@ use Rattle.network.specs.Pushing.{push, pushed}
 use Rattle.network.specs.Residual.{tail, weight}
 use Rattle.paths.specs.declared.label.Label.{Label}
 use Rattle.paths.specs.BestPaths.{via-at}
-use Rattle.paths.proofs.Tables.{tail-is, ends-read, size-is}
+use Rattle.paths.proofs.Tables.{tail-read, ends-read, size-is}
 use Rattle.engines.specs.Chains.{spelled, Takes, Once}
 use Rattle.engines.proofs.Chained.{spelled-none, turn-end, turn-more, turn-all}
 use Rattle.engines.proofs.Pushes.{takes-others}
@@ -86,7 +86,7 @@ loop-turn-again g c =
     let all = subst (λ (ss : List Step). All (Takes w f d) ss) more (c .loop-turn .inv .3) in
     let once = subst Once more (c .loop-turn .inv .4) in
     let e : c .tail-of-at .result ≡ tail (network-of (c .args .table .now)) (c .in-Some .step) =
-        c .tail-of-at .ensures ∙ sym (tail-is now s (h .0)) ∙ ap (λ (v : Network). tail v s) (c .loop-turn .inv .1) in
+        c .tail-of-at .ensures ∙ tail-read now s (h .0) _ refl ∙ ap (λ (v : Network). tail v s) (c .loop-turn .inv .1) in
     let below : c .tail-of-at .result < c .loop-turn .table .junctions = subst (λ (x : ℕ). x < now .junctions) (sym (c .tail-of-at .ensures)) (ends-read now (s .direction) (s .pipe) (h .0) .0) in
     let left = spelled w (via-at ls) (n - (k + 1)) (tail w s) in
     (omega (arith, ap (λ (v : Network). v .junctions) (c .loop-turn .inv .1)),

@@ -6,7 +6,7 @@ use Rattle.std.proofs.shelf.Lists.{getD-default}
 use Rattle.network.specs.declared.row.Row.{Row}
 use Rattle.network.specs.Network.{Pipe, Network}
 use Rattle.network.specs.Rows.{no-row, Limited}
-use Rattle.paths.proofs.Tables.{read-row, sound-read, weight-is}
+use Rattle.paths.proofs.Tables.{read-row, sound-read, weight-read}
 use Rattle.engines.proofs.Pushes.{joined-after, limited-after, flowing-after, pipes-after, push-row}
 use Rattle.engines.proofs.push.push_step.Needs as need
 
@@ -14,7 +14,7 @@ pub moved-requires : need.moved-requires
 moved-requires c κs =
     let t = c .args .table .now in
     let k = c .args .step .pipe in
-    let e = weight-is t (c .args .step) (c .pre .inside) in
+    let e = weight-read t (c .args .step) (c .pre .inside) _ refl in
     let h = c .pre .takes in
     record {
       limited = subst (λ (r : Row). Limited r) (getD-default (t .rows) k no-row read-row (let a = t .long in let b = t .held in let d = c .pre .inside in omega arith)) (t .limited k (c .pre .inside));

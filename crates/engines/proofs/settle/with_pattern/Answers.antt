@@ -11,7 +11,7 @@ use Rattle.network.specs.Rows.{no-row, Each, Joined, Limited, Dry}
 use Rattle.network.proofs.Rules.{each-more}
 use Rattle.paths.proofs.Tables.{read-row}
 use Rattle.formats.specs.Letters.{setting-of}
-use Rattle.engines.specs.Verdicts.{lettered}
+use Rattle.interface.specs.Verdicts.{lettered}
 use Rattle.engines.proofs.Patterning.{lettered-more, joined-set, limited-set, dry-rows}
 use Rattle.engines.proofs.settle.with_pattern.Needs as need
 

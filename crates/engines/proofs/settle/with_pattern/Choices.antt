@@ -3,7 +3,7 @@ use mathlib.Core.List.{map}
 use lib.ListN.{length, take}
 use Rattle.network.specs.Pipes.{pipe-of}
 use Rattle.network.specs.Rows.{Each, Joined, Limited, Dry}
-use Rattle.engines.specs.Verdicts.{lettered}
+use Rattle.interface.specs.Verdicts.{lettered}
 use Rattle.engines.proofs.settle.with_pattern.Given as given
 
 abbrev pub Inv-loop-k : given.InvT-loop-k

@@ -7,7 +7,7 @@ ghost use Rattle.std.specs.declared.result.Result.the-variants.{Ok, Err};
 ghost use Rattle.std.specs.Vec.{refused};
 ghost use Rattle.network.specs.Flows.{Greatest};
 ghost use Rattle.network.specs.Network.{Network, Sound, bare};
-ghost use Rattle.engines.specs.Verdicts.{loading, patterning, reporting, asking, change};
+ghost use Rattle.interface.specs.Verdicts.{loading, patterning, reporting, asking, change};
 use formats::refusal::Refusal;
 use network::report::Report;
 
