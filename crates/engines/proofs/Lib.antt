@@ -9,3 +9,5 @@ pub mod Augmenting
 pub mod Bounds
 pub mod Patterning
 pub mod Settling
+pub mod Calling
+pub mod Reading
