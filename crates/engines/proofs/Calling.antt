@@ -2,13 +2,17 @@
 use mathlib.Core.Path.{_≡_, refl, sym, ap, _∙_}
 use mathlib.Core.Bool.{Bool, true, false, cond}
 use mathlib.Core.List.{List}
-use Prim.Native.Nat.{ℕ, _+_, _-_, _≤_, _<_}
+use Prim.Native.Nat.{ℕ, _+_, _-_, _^_, _≤_, _<_}
 use native.Mathlib.Omega.{arith}
 use lib.Dec.{eqb, ltb}
+use lib.IntN.{ℤ, pos, _-ℤ_}
 use lib.ListN.{length, drop}
+use mir.Syntax.{w64}
+use mir.Val.{toZ, ofZ}
 use Rattle.std.specs.declared.result.Result.{Result}
 use Rattle.std.specs.declared.result.Result.the-variants.{Ok, Err}
 use Rattle.std.proofs.shelf.Lists.{length-drop}
+use Rattle.std.proofs.shelf.Signed.{ints}
 use Rattle.std.proofs.shelf.Ways.{tells}
 use Rattle.network.specs.declared.report.Report.{Report}
 use Rattle.network.specs.Governing.{governing}
@@ -71,3 +75,7 @@ module _ (most places : ℕ) (enough : most ≤ places) where
 -- a report by its three parts
 pub same-report : (r q : Report) → r .value ≡ q .value → r .near ≡ q .near → r .far ≡ q .far → r ≡ q
 same-report r q a b c = λ i. record { value = a i; near = b i; far = c i }
+
+-- a difference of two values, as the code has it
+pub signed-change : (a b x y : ℕ) → a < 2 ^ 32 → b < 2 ^ 32 → a ≡ x → b ≡ y → toZ w64 (ofZ w64 (toZ w64 a -ℤ toZ w64 b)) ≡ pos x -ℤ pos y
+signed-change a b x y h k e f = omega (arith, ints)

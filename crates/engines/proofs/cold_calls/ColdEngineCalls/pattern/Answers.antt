@@ -1,10 +1,45 @@
+use mathlib.Core.Path.{_≡_, refl, sym, ap, subst, _∙_}
+use mathlib.Core.List.{List}
+use Prim.Native.Nat.{ℕ, _^_, _≤_, _<_}
+use native.Mathlib.Omega.{arith}
+use lib.ListN.{length}
+use Rattle.std.specs.declared.result.Result.the-variants.{Ok}
+use Rattle.std.proofs.shelf.Results.{err-from-errBy}
+use Rattle.network.specs.declared.report.Report.{Report}
+use Rattle.network.specs.Flows.{dry}
+use Rattle.network.specs.Network.{Network}
+use Rattle.network.specs.Pipes.{network-of, flow-of}
+use Rattle.network.specs.Reports.{report-of}
+use Rattle.network.specs.Residual.{size}
+use Rattle.network.proofs.Tables.{table-size}
+use Rattle.engines.specs.Augmentations.{Fills}
+use Rattle.engines.proofs.Calling.{pattern-short, pattern-missed, pattern-done, signed-change}
 use Rattle.engines.proofs.cold_calls.ColdEngineCalls.pattern.Needs as need
 
 pub returns-then-letters-self : need.returns-then-letters-self
-returns-then-letters-self g c = ?
+returns-then-letters-self g c =
+    let t = c .args .self .now .table in
+    (pattern-short 64 _ (c .if-work-lt-MOST-JUNCTIONS .left) (network-of t) (c .args .letters .now) (λ e. c .if-letters-self .taken (e ∙ table-size t)), refl, refl)
 
 pub returns-in-Break-check-pattern : need.returns-in-Break-check-pattern
-returns-in-Break-check-pattern g c = ?
+returns-in-Break-check-pattern g c =
+    let t = c .args .self .now .table in
+    let long : length (c .args .letters .now) ≡ size (network-of (c .args .self .now .table)) = omega (arith, table-size t) in
+    let p = err-from-errBy (c .from-residual .result) (c .from-residual .ensures .1) in
+    rw (p .1, p .2) (pattern-missed 64 _ (c .if-work-lt-MOST-JUNCTIONS .left) (network-of t) (c .args .letters .now) long _ (c .in-Break-check-pattern .ensures tt), refl, refl)
 
 pub returns : need.returns
-returns g c = ?
+returns g c =
+    let m = g .M·PathMetric in
+    let e = c .args .self .now in
+    let t = e .table in
+    let u = c .settle-count .last .table in
+    let bs = c .args .letters .now in
+    let long : length (c .args .letters .now) ≡ size (network-of (c .args .self .now .table)) = omega (arith, table-size t) in
+    let same = c .settle-count .ensures .same in
+    let fits : c .settle-count .result .0 .value < 2 ^ 32 = omega arith in
+    let fits′ : c .args .self .now .report .value < 2 ^ 32 = omega arith in
+    (pattern-done 64 _ (c .if-work-lt-MOST-JUNCTIONS .left) (network-of t) bs long (c .in-Continue-check-pattern .ensures tt) ∙ ap (λ (w : Network). Ok w) (sym (same ∙ c .with-pattern-table .ensures .network)),
+     signed-change (c .settle-count .result .0 .value) (e .report .value) (report-of (network-of u) .value) (report-of (network-of t) .value) fits fits′
+       (ap (λ (r : Report). r .value) (c .settle-count .ensures .report ∙ ap report-of (sym same))) (e .value),
+     subst (λ (w : Network). Fills w (m .good) (m .start) (m .extended) (dry w) (c .settle-count .result .1) (flow-of u)) (sym same) (c .settle-count .ensures .count))
