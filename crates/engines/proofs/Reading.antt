@@ -9,7 +9,7 @@ use Rattle.network.specs.declared.table.Table.{Table}
 use Rattle.network.specs.Flows.{dry}
 use Rattle.network.specs.Pipes.{network-of, flow-of}
 use Rattle.network.specs.Rows.{Each, Dry}
-use Rattle.network.proofs.Tables.{table-size}
+use Rattle.network.proofs.TableFacts.{table-size}
 use Rattle.formats.specs.declared.reader.Reader.{Reader}
 use Rattle.formats.specs.Readers.{rest}
 use Rattle.formats.specs.Sheets.{sheet-in}

@@ -1,4 +1,4 @@
--- What a table's own rules say of its network.
+-- What a table's own rules say of its flow.
 use mathlib.Core.Path.{subst}
 use Prim.Native.Nat.{ℕ, _≤_, _<_}
 use native.Mathlib.Omega.{arith}
@@ -16,20 +16,6 @@ use Rattle.network.specs.Residual.{nowhere, size}
 use Rattle.network.specs.Rows.{no-row, Sound-flow, Limited}
 use Rattle.network.specs.Valves.{room}
 use Rattle.paths.proofs.Tables.{read-row, size-is, joins-is, sound-read}
-
-pub wired : (t : Table) → Wired (network-of t)
-wired t = record {
-  pump-in = t .pumped;
-  outlet-in = t .drained;
-  apart = t .apart;
-  joins = all-from-getD (Joins (t .junctions)) (network-of t .pipes) nowhere joined;
-}
-  where
-    joined : (k : ℕ) → k < size (network-of t) → Joins (t .junctions) (getD (network-of t .pipes) k nowhere)
-    joined k h =
-        let e = size-is t in
-        let j = joins-is t (record { pipe = k; direction = Along }) (omega arith) in
-        record { from-in = j .0; to-in = j .1; apart = j .2 }
 
 flow-by : (r : Row) → Limited r → Sound-flow r → r .flow ≤ 60000
 flow-by r l s = go (r .valve) s

@@ -9,7 +9,7 @@ use Rattle.std.proofs.shelf.Signed.{ints}
 use Rattle.std.proofs.shelf.Tests.{eq-eqb, ne-eqb}
 use Rattle.network.specs.declared.step.Step.{Step}
 use Rattle.network.specs.declared.table.Table.{Table}
-use Rattle.network.specs.Flows.{Flow, Within, outflow, inflow}
+use Rattle.network.specs.Flows.{Flow, outflow, inflow}
 use Rattle.network.specs.Network.{Network, Wired}
 use Rattle.network.specs.Paths.{Path}
 use Rattle.network.specs.Pipes.{network-of, flow-of}
@@ -19,8 +19,8 @@ use Rattle.network.specs.Residual.{tail, size, carried, weight}
 use Rattle.network.specs.Sums.{total, only}
 use Rattle.network.proofs.Balance.{weak-duality}
 use Rattle.network.proofs.Enumerated.{least-is, some-minimum}
-use Rattle.network.proofs.Greatest.{shifted-flow}
-use Rattle.network.proofs.Pushing.{path-within, path-shifts}
+use Rattle.network.proofs.Greatest.{augmented-flow as pushed-flow}
+use Rattle.network.proofs.Pushing.{path-shifts}
 use Rattle.engines.specs.Augmentations.{least-weight, Augments}
 use Rattle.engines.specs.Chains.{Takes}
 
@@ -56,10 +56,7 @@ module _ {Λ : Type 0} {good : Λ → Λ → Type 0} {start : Λ} {extended : Λ
 
   -- an augmentation from pump to outlet gives a flow
   pub augmented-flow : Flow w g
-  augmented-flow =
-      shifted-flow w wired f g c flow
-        (subst (λ (h : List ℕ). Within w h) (sym (aug .gives)) (path-within w f (w .pump) (w .outlet) c (aug .steps) (aug .leads) takes (flow .within)))
-        shifts
+  augmented-flow = subst (λ (h : List ℕ). Flow w h) (sym (aug .gives)) (pushed-flow w wired f flow c (aug .steps) (aug .leads) takes)
 
   -- of a value that is greater by the amount
   pub augmented-net : outflow w g (w .pump) + inflow w f (w .pump) ≡ outflow w f (w .pump) + inflow w g (w .pump) + c

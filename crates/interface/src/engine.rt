@@ -7,6 +7,8 @@ ghost use Rattle.std.specs.declared.result.Result.the-variants.{Ok, Err};
 ghost use Rattle.std.specs.Vec.{refused};
 ghost use Rattle.network.specs.Flows.{Greatest};
 ghost use Rattle.network.specs.Network.{Network, Sound, bare};
+ghost use Rattle.network.specs.Reaches.{Reached, Apart};
+ghost use Rattle.network.specs.Reports.{report-of};
 ghost use Rattle.interface.specs.Verdicts.{loading, patterning, reporting, asking, change};
 use formats::refusal::Refusal;
 use network::report::Report;
@@ -67,4 +69,9 @@ pub trait FlowEngine: Engine {
     ghost kept: { Self → List ℕ };
 
     law greatest: { (e : Self) → Greatest (Self·Engine .meaning e) (kept e) };
+
+    // the two sides, read off the residual graph of the kept flow
+    law near: { (e : Self) → Reached (Self·Engine .meaning e) (kept e) (Self·Engine .meaning e .pump) (report-of (Self·Engine .meaning e) .near) };
+
+    law far: { (e : Self) → Apart (Self·Engine .meaning e) (kept e) (Self·Engine .meaning e .outlet) (report-of (Self·Engine .meaning e) .far) };
 }

@@ -10,4 +10,4 @@ pub mod Changes
 pub mod Raising
 pub mod Repair
 pub mod Gathered
-pub mod Tables
+pub mod TableFacts

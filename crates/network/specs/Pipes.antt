@@ -12,6 +12,10 @@ use Rattle.network.specs.Network.{Pipe, Network}
 abbrev pub same-row : pipe-record.Pipe → Row → Type 0
 same-row p r = (p .from ≡ r .from) × (p .to ≡ r .to) × (p .limit ≡ r .limit) × (p .flow ≡ r .flow) × (p .valve ≡ r .valve)
 
+-- the pipe that a record stands for
+abbrev pub record-pipe : pipe-record.Pipe → Pipe
+record-pipe p = record { from = p .from; to = p .to; limit = p .limit; valve = p .valve }
+
 abbrev pub pipe-of : Row → Pipe
 pipe-of r = record { from = r .from; to = r .to; limit = r .limit; valve = r .valve }
 

@@ -13,12 +13,11 @@ pub fn governs(table: &Table, report: &Report, k: usize) -> bool
     ensures test { λ r. ⌜ r ≡ governing (network-of (now (table .entry))) (now (report .entry)) k ⌝ }
     ensures raises { λ r. ⌜ (now (report .entry) ≡ report-of (network-of (now (table .entry))) → Decides r (Raises (network-of (now (table .entry))) k)) ⌝ }
 {
-    if k >= table.count {
-        return false;
-    }
-    let row = table.rows[k];
-    match row.valve {
-        Valve::Open => holds(report.near, row.from) && !holds(report.far, row.to),
-        Valve::Closed => false,
+    match table.pipe(k) {
+        None => false,
+        Some(pipe) => match pipe.valve {
+            Valve::Open => holds(report.near, pipe.from) && !holds(report.far, pipe.to),
+            Valve::Closed => false,
+        },
     }
 }

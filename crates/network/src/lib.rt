@@ -6,5 +6,6 @@ pub mod row;
 pub mod sets;
 pub mod step;
 pub mod table;
+pub mod tables;
 pub mod theorems;
 pub mod valve;

@@ -1,4 +1,3 @@
-ghost use mathlib.Core.Path.{_≡_};
 ghost use Rattle.std.specs.Options.{Cases};
 ghost use Rattle.network.specs.Pipes.{same-row};
 ghost use Rattle.network.specs.Rows.{Sound-flow};

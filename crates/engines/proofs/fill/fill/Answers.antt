@@ -10,7 +10,7 @@ use Rattle.network.specs.Paths.{Path}
 use Rattle.network.specs.Pipes.{network-of, flow-of}
 use Rattle.engines.specs.Augmentations.{Augments, Fills, begun, more}
 use Rattle.engines.proofs.Bounds.{out-few, nearer, one-more}
-use Rattle.engines.proofs.Tables.{wired}
+use Rattle.network.proofs.TableFacts.{table-wired}
 use Rattle.engines.proofs.Weights.{augmented-flow}
 use Rattle.engines.proofs.fill.fill.Needs as need
 
@@ -31,7 +31,7 @@ loop-count-less g c =
     let f = flow-of (c .loop-count .table) in
     let h = flow-of (c .augment .last .table) in
     let aug = subst (λ (w : Network). Augments w (m .good) (m .start) (m .extended) (t .pump) (t .outlet) 60000 f (c .in-Some .field-0) h) (c .loop-count .inv .0) (c .in-Some .ensures tt .answer) in
-    nearer (network-of t) (wired t) 60000 f (c .in-Some .field-0) h aug (c .loop-count .inv .1)
+    nearer (network-of t) (table-wired t) 60000 f (c .in-Some .field-0) h aug (c .loop-count .inv .1)
 
 pub loop-count-again : need.loop-count-again
 loop-count-again g c =
@@ -41,9 +41,9 @@ loop-count-again g c =
     let h = flow-of (c .augment .last .table) in
     let aug = subst (λ (w : Network). Augments w (m .good) (m .start) (m .extended) (t .pump) (t .outlet) 60000 f (c .in-Some .field-0) h) (c .loop-count .inv .0) (c .in-Some .ensures tt .answer) in
     (c .in-Some .ensures tt .same ∙ c .loop-count .inv .0,
-     augmented-flow (network-of t) (wired t) 60000 f (c .in-Some .field-0) h aug (c .loop-count .inv .1),
+     augmented-flow (network-of t) (table-wired t) 60000 f (c .in-Some .field-0) h aug (c .loop-count .inv .1),
      subst (λ (n : ℕ). Fills (network-of t) (m .good) (m .start) (m .extended) (flow-of t) n h) (sym (add-one (c .loop-count .count))) (more (c .loop-count .inv .2) aug),
-     one-more (network-of t) (wired t) 60000 f (c .in-Some .field-0) h aug (c .loop-count .inv .1) (c .loop-count .count) (c .loop-count .inv .3))
+     one-more (network-of t) (table-wired t) 60000 f (c .in-Some .field-0) h aug (c .loop-count .inv .1) (c .loop-count .count) (c .loop-count .inv .3))
 
 pub returns : need.returns
 returns g c =

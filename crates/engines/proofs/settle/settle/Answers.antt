@@ -11,7 +11,7 @@ use Rattle.network.specs.Reports.{report-of}
 use Rattle.network.proofs.Greatest.{dry-flow}
 use Rattle.engines.specs.Augmentations.{Fills}
 use Rattle.engines.proofs.Settling.{balance, dry-forth, full-forth}
-use Rattle.engines.proofs.Tables.{wired}
+use Rattle.network.proofs.TableFacts.{table-wired}
 use Rattle.engines.proofs.settle.settle.Needs as need
 
 pub fill-count-requires : need.fill-count-requires
@@ -20,8 +20,8 @@ fill-count-requires g c κs =
     let w = network-of t in
     record {
       places = c .pre .places;
-      flow = subst (λ (f : List ℕ). Flow w f) (sym (c .pre .dry)) (dry-flow w (wired t));
-      forth = subst (λ (f : List ℕ). inflow w f (w .pump) ≤ outflow w f (w .pump)) (sym (c .pre .dry)) (dry-forth w (wired t))
+      flow = subst (λ (f : List ℕ). Flow w f) (sym (c .pre .dry)) (dry-flow w (table-wired t));
+      forth = subst (λ (f : List ℕ). inflow w f (w .pump) ≤ outflow w f (w .pump)) (sym (c .pre .dry)) (dry-forth w (table-wired t))
     }
 
 pub returns : need.returns
@@ -37,7 +37,7 @@ returns g c =
     record {
       same = e;
       balanced = balance (network-of u) f flow;
-      valued = full-forth (network-of u) (wired u) f flow none _ (c .report .ensures .value);
+      valued = full-forth (network-of u) (table-wired u) f flow none _ (c .report .ensures .value);
       report = c .report .ensures .whole flow none ∙ ap report-of e;
       count = subst (λ (h : List ℕ). Fills (network-of t) (m .good) (m .start) (m .extended) h (c .fill-count .result) f) (c .pre .dry) (c .fill-count .ensures .count)
     }

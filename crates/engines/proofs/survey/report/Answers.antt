@@ -4,7 +4,7 @@ use Rattle.network.specs.Pipes.{network-of, flow-of}
 use Rattle.network.specs.Reaches.{Reached, Apart}
 use Rattle.engines.proofs.Closures.{closure-reached}
 use Rattle.engines.proofs.Surveys.{closure-apart, surveyed}
-use Rattle.engines.proofs.Tables.{wired}
+use Rattle.network.proofs.TableFacts.{table-wired}
 use Rattle.engines.proofs.survey.report.Needs as need
 
 pub returns : need.returns
@@ -19,5 +19,5 @@ returns c =
       value = c .value .ensures;
       near = reached;
       far = apart;
-      whole = surveyed w (wired t) f (c .value .result) (c .reached .result) far (c .value .ensures) reached apart;
+      whole = surveyed w (table-wired t) f (c .value .result) (c .reached .result) far (c .value .ensures) reached apart;
     }

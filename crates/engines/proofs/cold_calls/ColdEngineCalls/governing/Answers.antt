@@ -2,7 +2,7 @@ use mathlib.Core.Path.{_≡_, refl}
 use native.Mathlib.Omega.{arith}
 use Rattle.network.specs.Pipes.{network-of}
 use Rattle.network.specs.Reports.{report-of}
-use Rattle.network.proofs.Tables.{table-size}
+use Rattle.network.proofs.TableFacts.{table-size}
 use Rattle.engines.proofs.Calling.{no-pipe, pipe-asked, same-report}
 use Rattle.engines.proofs.cold_calls.ColdEngineCalls.governing.Needs as need
 

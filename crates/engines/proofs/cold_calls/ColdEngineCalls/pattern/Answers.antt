@@ -11,7 +11,7 @@ use Rattle.network.specs.Network.{Network}
 use Rattle.network.specs.Pipes.{network-of, flow-of}
 use Rattle.network.specs.Reports.{report-of}
 use Rattle.network.specs.Residual.{size}
-use Rattle.network.proofs.Tables.{table-size}
+use Rattle.network.proofs.TableFacts.{table-size}
 use Rattle.engines.specs.Augmentations.{Fills}
 use Rattle.engines.proofs.Calling.{pattern-short, pattern-missed, pattern-done, signed-change}
 use Rattle.engines.proofs.cold_calls.ColdEngineCalls.pattern.Needs as need

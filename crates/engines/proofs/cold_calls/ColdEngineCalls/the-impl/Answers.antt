@@ -1,4 +1,4 @@
-use Rattle.network.proofs.Tables.{table-sound}
+use Rattle.network.proofs.TableFacts.{table-sound}
 use Rattle.engines.proofs.cold_calls.ColdEngineCalls.the-impl.Needs as need
 
 pub sound-law : need.sound-law

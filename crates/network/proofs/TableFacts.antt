@@ -1,12 +1,15 @@
 -- The network of a table is sound, and the flow on it keeps within the limits.
-use mathlib.Core.Path.{_≡_, refl, sym, ap, _∙_}
+use mathlib.Core.Path.{_≡_, refl, sym, ap, subst, _∙_}
 use mathlib.Core.Bool.{Bool, false, _&&_, not}
 use mathlib.Core.List.{List, [], _∷_, map}
 use Prim.Native.Nat.{ℕ, zero, suc, _≤_, _<_}
 use native.Mathlib.Omega.{arith}
 use lib.ListN.{length, getD, set, take, length-take}
 use lib.Seq.{getD-take}
+use Rattle.std.specs.Options.{Cases}
 use Rattle.std.specs.Orderings.{Decides}
+use Rattle.std.specs.declared.option.Option.{Option}
+use Rattle.std.specs.declared.option.Option.the-variants.{Some, None}
 use Rattle.std.proofs.shelf.Elements.{all-from-getD}
 use Rattle.std.proofs.shelf.Lists.{length-map, getD-default, getD-map, getD-past, map-set}
 use Rattle.network.specs.declared.report.Report.{Report}
@@ -16,11 +19,12 @@ use Rattle.network.specs.declared.valve.Valve.{Valve}
 use Rattle.network.specs.Cuts.{has}
 use Rattle.network.specs.Flows.{Within}
 use Rattle.network.specs.Governing.{is-open, governing, Raises}
-use Rattle.network.specs.Network.{Joins, Limited, Wired, Sound}
-use Rattle.network.specs.Pipes.{pipe-of, network-of, flow-of}
+use Rattle.network.specs.Network.{Pipe, Joins, Limited, Wired, Sound}
+use Rattle.network.specs.declared.pipe.Pipe as pipe-record
+use Rattle.network.specs.Pipes.{record-pipe, same-row, pipe-of, network-of, flow-of}
 use Rattle.network.specs.Reports.{report-of}
 use Rattle.network.specs.Residual.{nowhere, pipe, size, carried}
-use Rattle.network.specs.Rows.{no-row}
+use Rattle.network.specs.Rows.{no-row, Sound-flow}
 use Rattle.network.proofs.Raising.{governs-raises}
 
 take-set-in : {X : Type 0} (n : ℕ) (xs : List X) (k : ℕ) (y : X) → k < n → take n (set xs k y) ≡ set (take n xs) k y
@@ -83,16 +87,30 @@ module _ (t : Table) where
   pub table-none : (k : ℕ) → t .count ≤ k → pipe (network-of t) k ≡ nowhere
   table-none k l = getD-past (network-of t .pipes) k nowhere (omega (arith, table-size))
 
-  -- whether a pipe governs, by its row
-  pub governing-row : (r : Report) (k : ℕ) (d : Row) (v : Valve) → k < t .count → getD (t .rows) k d .valve ≡ v →
-      governing (network-of t) r k ≡ (is-open v && (has (r .near) (getD (t .rows) k d .from) && not (has (r .far) (getD (t .rows) k d .to))))
-  governing-row r k d v l e =
-      ap (λ p. is-open (p .valve) && (has (r .near) (p .from) && not (has (r .far) (p .to))))
-      (table-pipe k l ∙ ap pipe-of (getD-default (t .rows) k no-row d (omega (arith, t .held, t .long))))
-      ∙ ap (λ u. is-open u && (has (r .near) (getD (t .rows) k d .from) && not (has (r .far) (getD (t .rows) k d .to)))) e
+  -- whether a pipe governs, by its record
+  pub governing-record : (r : Report) (k : ℕ) (p : Pipe) (v : Valve) → p ≡ pipe (network-of t) k → p .valve ≡ v →
+      governing (network-of t) r k ≡ (is-open v && (has (r .near) (p .from) && not (has (r .far) (p .to))))
+  governing-record r k p v e q =
+      ap (λ x. is-open (x .valve) && (has (r .near) (x .from) && not (has (r .far) (x .to)))) (sym e)
+      ∙ ap (λ u. is-open u && (has (r .near) (p .from) && not (has (r .far) (p .to)))) q
 
   pub governing-none : (r : Report) (k : ℕ) → t .count ≤ k → governing (network-of t) r k ≡ false
   governing-none r k l = ap (λ p. is-open (p .valve) && (has (r .near) (p .from) && not (has (r .far) (p .to)))) (table-none k l)
 
   pub raises-by : (r : Report) (k : ℕ) (b : Bool) → b ≡ governing (network-of t) r k → r ≡ report-of (network-of t) → Decides b (Raises (network-of t) k)
   raises-by r k b e q = rw (e, q) (governs-raises (network-of t) table-wired k)
+
+  -- the record that a row gives, if the row is pipe k
+  pub record-is : (k : ℕ) (d : Row) (o : Option pipe-record.Pipe) → k < t .count → Cases o (Sound-flow (getD (t .rows) k d) → ⊥) (λ p. same-row p (getD (t .rows) k d)) →
+      Cases o (t .count ≤ k) (λ p. (k < t .count) × (record-pipe p ≡ pipe (network-of t) k) × (p .flow ≡ carried (flow-of t) k))
+  record-is k d o l h = go o h
+    where
+      row-is : getD (t .rows) k no-row ≡ getD (t .rows) k d
+      row-is = getD-default (t .rows) k no-row d (omega (arith, t .held, t .long))
+
+      go : (o : Option pipe-record.Pipe) → Cases o (Sound-flow (getD (t .rows) k d) → ⊥) (λ p. same-row p (getD (t .rows) k d)) →
+          Cases o (t .count ≤ k) (λ p. (k < t .count) × (record-pipe p ≡ pipe (network-of t) k) × (p .flow ≡ carried (flow-of t) k))
+      go None h = absurd (h (subst (λ (r : Row). Sound-flow r) row-is (t .flowing k l)))
+      go (Some p) h = (l,
+        (λ i. record { from = h .0 i; to = h .1 i; limit = h .2 i; valve = h .4 i }) ∙ sym (ap pipe-of row-is) ∙ sym (table-pipe k l),
+        h .3 ∙ sym (ap (λ (r : Row). r .flow) row-is) ∙ sym (table-carried k l))
