@@ -49,5 +49,5 @@ module _ {L Λ : Type 0} {means : L → Λ} {good : Λ → Λ → Type 0} {start
       best = best .best;
       amount-is = amount;
       some = subst (λ (x : ℕ). 0 < x) (sym amount) (path-some (network-of t) (flow-of t) a most (best .steps) b (best .leads) h);
-      gives = e ∙ ap (pushed (flow-of t) c) spelled-is
+      gives = e ∙ ap (pushed (flow-of t) c) spelled-is;
     }

@@ -30,7 +30,7 @@ only-few false x h = omega arith
 pub out-few : (t : Table) (j : ℕ) → outflow (network-of t) (flow-of t) j ≤ 30720000
 out-few t j =
     let m = total-few (size (network-of t)) (λ k. only (eqb (pipe (network-of t) k .from) j) (carried (flow-of t) k))
-        (λ k h. only-few (eqb (pipe (network-of t) k .from) j) (carried (flow-of t) k) (let i : k < t .count = omega (arith, size-is t) in omega (arith, carried-is t k i, flow-few t k i))) in
+    (λ k h. only-few (eqb (pipe (network-of t) k .from) j) (carried (flow-of t) k) (let i : k < t .count = omega (arith, size-is t) in omega (arith, carried-is t k i, flow-few t k i))) in
     omega (arith, m, size-is t, t .held)
 
 module _ {Λ : Type 0} {good : Λ → Λ → Type 0} {start : Λ} {extended : Λ → ℕ → Λ} (w : Network) (wired : Wired w) (most : ℕ) (f : List ℕ) (c : ℕ) (g : List ℕ)

@@ -23,9 +23,9 @@ lettered-push (c ∷ bs) (q ∷ ps) b p e = ap (λ (l : List Pipe). set-by (sett
 
 -- one row more
 pub lettered-more : (rows old : List Row) (bs : List ℕ) (k : ℕ) (r d : Row) → k < length rows → k < length old → k < length bs
-  → pipe-of r ≡ set-by (setting-of (getD bs k 0)) (pipe-of (getD old k d))
-  → map pipe-of (take k rows) ≡ lettered (take k bs) (map pipe-of (take k old))
-  → map pipe-of (take (k + 1) (set rows k r)) ≡ lettered (take (k + 1) bs) (map pipe-of (take (k + 1) old))
+    → pipe-of r ≡ set-by (setting-of (getD bs k 0)) (pipe-of (getD old k d))
+    → map pipe-of (take k rows) ≡ lettered (take k bs) (map pipe-of (take k old))
+    → map pipe-of (take (k + 1) (set rows k r)) ≡ lettered (take (k + 1) bs) (map pipe-of (take (k + 1) old))
 lettered-more rows old bs k r d h i j e p =
     let same : length (take k bs) ≡ length (map pipe-of (take k old)) = omega (arith, length-take-le k bs (omega arith), length-map (take k old) pipe-of, length-take-le k old (omega arith)) in
     ap (map pipe-of) (take-more-set rows k r h) ∙ map-push pipe-of (take k rows) r
@@ -54,5 +54,5 @@ dry-rows rows n h each =
     let long : length (take n rows) ≡ n = length-take-le n rows h in
     let wide : length (map (λ (r : Row). r .flow) (take n rows)) ≡ n = length-map (take n rows) (λ (r : Row). r .flow) ∙ long in
     ext-getD 0 (map (λ (r : Row). r .flow) (take n rows)) (replicate n 0) (wide ∙ sym (length-replicate n 0))
-      (λ k l. let i : k < n = omega arith in
-        getD-map (λ (r : Row). r .flow) (take n rows) k no-row 0 (omega arith) ∙ ap (λ (r : Row). r .flow) (getD-take n rows k no-row i) ∙ each k i ∙ sym (getD-replicate n k 0 0 i))
+    (λ k l. let i : k < n = omega arith in
+    getD-map (λ (r : Row). r .flow) (take n rows) k no-row 0 (omega arith) ∙ ap (λ (r : Row). r .flow) (getD-take n rows k no-row i) ∙ each k i ∙ sym (getD-replicate n k 0 0 i))

@@ -86,7 +86,7 @@ module _ (t : Table) (k x : ℕ) (inside : k < t .count) where
   flows-after = ap (map (λ (r : Row). r .flow)) taken ∙ map-set (λ (r : Row). r .flow) (take (t .count) (t .rows)) k new
 
 pub push-row : (t : Table) (s : Step) (c x : ℕ) (inside : s .pipe < t .count) → x ≡ moved (s .direction) (getD (t .rows) (s .pipe) read-row .flow) c
-  → map (λ (r : Row). r .flow) (take (t .count) (rows-after t (s .pipe) x inside)) ≡ push (flow-of t) c s
+    → map (λ (r : Row). r .flow) (take (t .count) (rows-after t (s .pipe) x inside)) ≡ push (flow-of t) c s
 push-row t s c x inside e =
     flows-after t (s .pipe) x inside
     ∙ ap (set (flow-of t) (s .pipe)) (e ∙ ap (λ (y : ℕ). moved (s .direction) y c) (sym (carried-is t (s .pipe) inside)))

@@ -25,7 +25,7 @@ dry-forth w wired = omega (arith, ints, dry-value w wired)
 
 -- a flow that no path augments has no negative value
 pub full-forth : (w : Network) → Wired w → (f : List ℕ) → Flow w f → ((ss : List Step) → Path w f (w .pump) ss (w .outlet) → ⊥) → (v : ℕ) → v ≡ outflow w f (w .pump) - inflow w f (w .pump)
-  → outflow w f (w .pump) ≡ inflow w f (w .pump) + v
+    → outflow w f (w .pump) ≡ inflow w f (w .pump) + v
 full-forth w wired f flow none v e = omega (arith, ints, greatest-value w wired f (path-greatest w wired f flow none))
 
 -- a flow of the least capacity is greatest

@@ -3,13 +3,13 @@ ghost use Rattle.network.specs.Flows.{dry};
 ghost use Rattle.network.specs.Pipes.{network-of, flow-of};
 ghost use Rattle.engines.specs.Augmentations.{Fills};
 use crate::cold::ColdEngine;
-use interface::engine::Engine;
-use interface::engine::FlowEngine;
 use crate::settle::settle;
 use crate::settle::with_pattern;
 use formats::letters::check_pattern;
 use formats::reader::Reader;
 use formats::refusal::Refusal;
+use interface::engine::Engine;
+use interface::engine::FlowEngine;
 use network::governing::governs;
 use network::report::Report;
 use network::row::Row;
@@ -21,7 +21,13 @@ use paths::label::Label;
 use paths::metric::PathMetric;
 use std::marker::PhantomData;
 
-const NO_ROW: Row = Row { from: 0, to: 0, limit: 0, flow: 0, valve: Valve::Closed };
+const NO_ROW: Row = Row {
+    from: 0,
+    to: 0,
+    limit: 0,
+    flow: 0,
+    valve: Valve::Closed,
+};
 
 // A call without text concerns no line.
 const NO_LINE: usize = 0;
@@ -39,8 +45,22 @@ pub impl<M: PathMetric> Engine for ColdEngine<M> as ColdEngineCalls {
     ghost counted = { λ a b n. Fills (network-of (b .table)) (M·PathMetric .good) (M·PathMetric .start) (M·PathMetric .extended) (dry (network-of (b .table))) n (flow-of (b .table)) };
 
     fn new() -> Self {
-        let table = Table { junctions: 2, pump: 0, outlet: 1, rows: [NO_ROW; MOST_PIPES], count: 0 };
-        ColdEngine { table, report: Report { value: 0, near: 1, far: 1 }, metric: PhantomData }
+        let table = Table {
+            junctions: 2,
+            pump: 0,
+            outlet: 1,
+            rows: [NO_ROW; MOST_PIPES],
+            count: 0,
+        };
+        ColdEngine {
+            table,
+            report: Report {
+                value: 0,
+                near: 1,
+                far: 1,
+            },
+            metric: PhantomData,
+        }
     }
 
     fn junction_bound() -> usize {
@@ -54,7 +74,11 @@ pub impl<M: PathMetric> Engine for ColdEngine<M> as ColdEngineCalls {
         let mut reader = Reader::new(text);
         let mut table = reader.sheet(MOST_JUNCTIONS)?;
         let (report, _) = settle(&mut table, work);
-        *self = ColdEngine { table, report, metric: PhantomData };
+        *self = ColdEngine {
+            table,
+            report,
+            metric: PhantomData,
+        };
         Ok(reader.at)
     }
 
@@ -69,7 +93,11 @@ pub impl<M: PathMetric> Engine for ColdEngine<M> as ColdEngineCalls {
         let mut table = with_pattern(&self.table, letters);
         let (report, count) = settle(&mut table, work);
         let change = report.value as i64 - self.report.value as i64;
-        *self = ColdEngine { table, report, metric: PhantomData };
+        *self = ColdEngine {
+            table,
+            report,
+            metric: PhantomData,
+        };
         Ok((change, count))
     }
 

@@ -20,14 +20,22 @@ const NO_BOUND: u32 = 60_000;
 
 // Adds along a best path from `source` to `goal` the smallest weight on it, or `most` if that is less.
 // The answer is the amount, or None where there is no path.
-pub fn augment<M: PathMetric>(table: &mut Table, source: usize, goal: usize, most: u32, labels: &mut [Label<M>]) -> Option<u32>
+pub fn augment<M: PathMetric>(
+    table: &mut Table,
+    source: usize,
+    goal: usize,
+    most: u32,
+    labels: &mut [Label<M>],
+) -> Option<u32>
     requires source { ⌜ source < now table .junctions ⌝ }
     requires goal { ⌜ goal < now table .junctions ⌝ }
     requires places { ⌜ now table .junctions ≤ length (now labels) ⌝ }
     requires some { ⌜ 0 < most ⌝ }
     ensures same { λ _. ⌜ network-of (now (table .exit)) ≡ network-of (now (table .entry)) ⌝ }
-    ensures answer { λ r. ⌜ elim r [ None ↦ (flow-of (now (table .exit)) ≡ flow-of (now (table .entry))) × ((ss : List Step) → Path (network-of (now (table .entry))) (flow-of (now (table .entry))) source ss goal → ⊥)
-      | Some c ↦ Augments (network-of (now (table .entry))) good start extended source goal most (flow-of (now (table .entry))) c (flow-of (now (table .exit))) ] ⌝ }
+    ensures answer { λ r. ⌜ elim r [
+      | None ↦ (flow-of (now (table .exit)) ≡ flow-of (now (table .entry))) × ((ss : List Step) → Path (network-of (now (table .entry))) (flow-of (now (table .entry))) source ss goal → ⊥)
+      | Some c ↦ Augments (network-of (now (table .entry))) good start extended source goal most (flow-of (now (table .entry))) c (flow-of (now (table .exit)))
+    ] ⌝ }
 {
     best_path(table, source, goal, labels)?;
     let amount = least_weight(table, labels, goal, most);

@@ -21,7 +21,12 @@ use paths::residual::tail_of;
 use paths::residual::weight_of;
 
 // The smallest weight on the path that the labels spell back from `goal`, or `most` if that is less.
-pub fn least_weight<M: PathMetric>(table: &Table, labels: &[Label<M>], goal: usize, most: u32) -> u32
+pub fn least_weight<M: PathMetric>(
+    table: &Table,
+    labels: &[Label<M>],
+    goal: usize,
+    most: u32,
+) -> u32
     requires goal { ⌜ goal < now table .junctions ⌝ }
     requires places { ⌜ now table .junctions ≤ length (now labels) ⌝ }
     requires inside { ⌜ All (λ s. s .pipe < now table .count) (spelled (network-of (now table)) (via-at (now labels)) (now table .junctions) goal) ⌝ }

@@ -38,12 +38,24 @@ fn set_row(row: &Row, letter: u8) -> Row
     ensures pipe { λ r. ⌜ pipe-of r ≡ set-by (setting-of letter) (pipe-of (now (row .entry))) ⌝ }
     ensures dry { λ r. ⌜ Dry r ⌝ }
 {
-    let Row { from, to, limit, valve, .. } = *row;
+    let Row {
+        from,
+        to,
+        limit,
+        valve,
+        ..
+    } = *row;
     let valve = match read_setting(letter) {
         Some(setting) => setting.apply(valve),
         None => valve,
     };
-    Row { from, to, limit, flow: 0, valve }
+    Row {
+        from,
+        to,
+        limit,
+        flow: 0,
+        valve,
+    }
 }
 
 // The table with its valves set by a letter for each pipe, and dry.
@@ -56,5 +68,11 @@ pub fn with_pattern(table: &Table, letters: &[u8]) -> Table
     for k in 0..table.count {
         rows[k] = set_row(&table.rows[k], letters[k]);
     }
-    Table { junctions: table.junctions, pump: table.pump, outlet: table.outlet, rows, count: table.count }
+    Table {
+        junctions: table.junctions,
+        pump: table.pump,
+        outlet: table.outlet,
+        rows,
+        count: table.count,
+    }
 }

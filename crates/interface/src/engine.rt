@@ -43,15 +43,19 @@ pub trait Engine {
 
     // The network becomes that of the sheet with which the text begins. The answer is the number of bytes taken.
     fn load(&mut self, text: &[u8], work: &mut [Self::Place]) -> Result<usize, Refusal>
-        ensures { λ r. ⌜ elim r [ Ok n ↦ loading most (length (now (work .entry))) (now (text .entry)) ≡ Ok (meaning (now (self .exit)), n)
-          | Err e ↦ (loading most (length (now (work .entry))) (now (text .entry)) ≡ Err e) × (now (self .exit) ≡ now (self .entry)) × (now (work .exit) ≡ now (work .entry)) ] ⌝ };
+        ensures { λ r. ⌜ elim r [
+          | Ok n ↦ loading most (length (now (work .entry))) (now (text .entry)) ≡ Ok (meaning (now (self .exit)), n)
+          | Err e ↦ (loading most (length (now (work .entry))) (now (text .entry)) ≡ Err e) × (now (self .exit) ≡ now (self .entry)) × (now (work .exit) ≡ now (work .entry))
+        ] ⌝ };
 
     // All valves are set by a letter for each pipe. The answer is the change of the greatest value, and the number of augmentations.
     fn pattern(&mut self, letters: &[u8], work: &mut [Self::Place]) -> Result<(i64, u32), Refusal>
-        ensures { λ r. ⌜ elim r [ Ok d ↦ (patterning most (length (now (work .entry))) (meaning (now (self .entry))) (now (letters .entry)) ≡ Ok (meaning (now (self .exit))))
-            × (d .0 ≡ change (meaning (now (self .entry))) (meaning (now (self .exit))))
-            × counted (now (self .entry)) (now (self .exit)) (d .1)
-          | Err e ↦ (patterning most (length (now (work .entry))) (meaning (now (self .entry))) (now (letters .entry)) ≡ Err e) × (now (self .exit) ≡ now (self .entry)) × (now (work .exit) ≡ now (work .entry)) ] ⌝ };
+        ensures { λ r. ⌜ elim r [
+          | Ok d ↦ (patterning most (length (now (work .entry))) (meaning (now (self .entry))) (now (letters .entry)) ≡ Ok (meaning (now (self .exit))))
+              × (d .0 ≡ change (meaning (now (self .entry))) (meaning (now (self .exit))))
+              × counted (now (self .entry)) (now (self .exit)) (d .1)
+          | Err e ↦ (patterning most (length (now (work .entry))) (meaning (now (self .entry))) (now (letters .entry)) ≡ Err e) × (now (self .exit) ≡ now (self .entry)) × (now (work .exit) ≡ now (work .entry))
+        ] ⌝ };
 
     // The least capacity, the junctions in every minimum cut and those in at least one.
     fn report(&self, work: &mut [Self::Place]) -> Result<Report, Refusal>

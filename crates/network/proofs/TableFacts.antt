@@ -111,6 +111,8 @@ module _ (t : Table) where
       go : (o : Option pipe-record.Pipe) → Cases o (Sound-flow (getD (t .rows) k d) → ⊥) (λ p. same-row p (getD (t .rows) k d)) →
           Cases o (t .count ≤ k) (λ p. (k < t .count) × (record-pipe p ≡ pipe (network-of t) k) × (p .flow ≡ carried (flow-of t) k))
       go None h = absurd (h (subst (λ (r : Row). Sound-flow r) row-is (t .flowing k l)))
-      go (Some p) h = (l,
+      go (Some p) h = (
+        l,
         (λ i. record { from = h .0 i; to = h .1 i; limit = h .2 i; valve = h .4 i }) ∙ sym (ap pipe-of row-is) ∙ sym (table-pipe k l),
-        h .3 ∙ sym (ap (λ (r : Row). r .flow) row-is) ∙ sym (table-carried k l))
+        h .3 ∙ sym (ap (λ (r : Row). r .flow) row-is) ∙ sym (table-carried k l),
+      )

@@ -8,7 +8,7 @@ least-weight-amount-requires g c κs =
     record {
       goal = c .pre .goal;
       places = omega (arith, c .pre .places);
-      inside = spelled-inside (c .args .table .now) (c .args .source) (c .args .goal) (c .best-path .last .labels) _ (c .pre .source) (c .in-Continue-best-path .ensures tt .answer)
+      inside = spelled-inside (c .args .table .now) (c .args .source) (c .args .goal) (c .best-path .last .labels) _ (c .pre .source) (c .in-Continue-best-path .ensures tt .answer);
     }
 
 pub push-requires : need.push-requires
@@ -19,7 +19,7 @@ push-requires g c κs =
       goal = c .pre .goal;
       places = omega (arith, c .pre .places);
       takes = spelled-takes t (c .args .source) (c .args .goal) (c .best-path .last .labels) _ (c .pre .source) best (c .args .most) (c .least-weight-amount .result) (c .least-weight-amount .ensures);
-      once = spelled-once t (c .args .source) (c .args .goal) (c .best-path .last .labels) _ (c .pre .source) best
+      once = spelled-once t (c .args .source) (c .args .goal) (c .best-path .last .labels) _ (c .pre .source) best;
     }
 
 pub returns : need.returns
@@ -28,5 +28,5 @@ returns g c =
     let best = c .in-Continue-best-path .ensures tt .answer in
     record {
       same = c .push .ensures .same;
-      answer = augments t (c .args .source) (c .args .goal) (c .best-path .last .labels) _ (c .pre .source) best (c .args .most) (c .least-weight-amount .result) (c .least-weight-amount .ensures) (c .pre .some) _ (c .push .ensures .flow)
+      answer = augments t (c .args .source) (c .args .goal) (c .best-path .last .labels) _ (c .pre .source) best (c .args .most) (c .least-weight-amount .result) (c .least-weight-amount .ensures) (c .pre .some) _ (c .push .ensures .flow);
     }

@@ -21,10 +21,11 @@ pub loop-turn-holds : need.loop-turn-holds
 loop-turn-holds g c =
     let t = c .args .table .now in
     let via = via-at (c .args .labels .now) in
-    let z : c .args .table .now .junctions - 0 ≡ c .args .table .now .junctions = omega arith in
-    (c .pre .goal,
-     subst (λ (m : ℕ). All (λ s. s .pipe < t .count) (spelled (network-of t) via m (c .args .goal))) (sym z) (c .pre .inside),
-     ap (λ (m : ℕ). least-weight (network-of t) (flow-of t) (c .args .most) (spelled (network-of t) via m (c .args .goal))) z)
+    let z : c .args .table .now .junctions - 0 ≡ c .args .table .now .junctions = omega arith in (
+      c .pre .goal,
+      subst (λ (m : ℕ). All (λ s. s .pipe < t .count) (spelled (network-of t) via m (c .args .goal))) (sym z) (c .pre .inside),
+      ap (λ (m : ℕ). least-weight (network-of t) (flow-of t) (c .args .most) (spelled (network-of t) via m (c .args .goal))) z,
+    )
 
 pub returns-in-rest : need.returns-in-rest
 returns-in-rest g c =
@@ -67,14 +68,15 @@ loop-turn-again g c =
     let all = turn-all w ls n k (c .loop-turn .at) (c .index-labels-at .result) (c .loop-turn-test .taken) inside (c .index-labels-at .is) s (c .in-Some .is) (λ s. s .pipe < t .count) (c .loop-turn .inv .1) in
     let e : c .tail-of-at .result ≡ tail (network-of (c .args .table .now)) (c .in-Some .step) = c .tail-of-at .ensures ∙ tail-read t s (all .0) _ refl in
     let m : c .min-least .result ≡ min (c .loop-turn .least) (weight (network-of (c .args .table .now)) (flow-of (c .args .table .now)) (c .in-Some .step)) =
-        c .min-least .ensures ∙ ap (min (c .loop-turn .least)) (c .weight-of .ensures ∙ weight-read t s (all .0) _ refl) in
-    let more = turn-more w ls n k (c .loop-turn .at) (c .index-labels-at .result) (c .loop-turn-test .taken) inside (c .index-labels-at .is) s (c .in-Some .is) in
-    (subst (λ (x : ℕ). x < t .junctions) (sym (c .tail-of-at .ensures)) (ends-read t (s .direction) (s .pipe) (all .0) .0),
-     subst (λ (x : ℕ). All (λ s. s .pipe < t .count) (spelled w (via-at ls) (n - (k + 1)) x)) (sym e) (all .1),
-     ap (λ (x : ℕ). least-weight w f (c .min-least .result) (spelled w (via-at ls) (n - (k + 1)) x)) e
-       ∙ ap (λ (x : ℕ). least-weight w f x (spelled w (via-at ls) (n - (k + 1)) (tail w s))) m
-       ∙ sym (ap (least-weight w f (c .loop-turn .least)) more)
-       ∙ c .loop-turn .inv .2)
+    c .min-least .ensures ∙ ap (min (c .loop-turn .least)) (c .weight-of .ensures ∙ weight-read t s (all .0) _ refl) in
+    let more = turn-more w ls n k (c .loop-turn .at) (c .index-labels-at .result) (c .loop-turn-test .taken) inside (c .index-labels-at .is) s (c .in-Some .is) in (
+      subst (λ (x : ℕ). x < t .junctions) (sym (c .tail-of-at .ensures)) (ends-read t (s .direction) (s .pipe) (all .0) .0),
+      subst (λ (x : ℕ). All (λ s. s .pipe < t .count) (spelled w (via-at ls) (n - (k + 1)) x)) (sym e) (all .1),
+      ap (λ (x : ℕ). least-weight w f (c .min-least .result) (spelled w (via-at ls) (n - (k + 1)) x)) e
+          ∙ ap (λ (x : ℕ). least-weight w f x (spelled w (via-at ls) (n - (k + 1)) (tail w s))) m
+          ∙ sym (ap (least-weight w f (c .loop-turn .least)) more)
+          ∙ c .loop-turn .inv .2,
+    )
 
 pub returns : need.returns
 returns g c =

@@ -25,7 +25,7 @@ returns-in-Along c =
     let r = c .args .row .now in
     record {
       is = ap (λ (d : Direction). moved d (r .flow) (c .args .amount)) (sym (c .in-Along .is));
-      within = along-fits r (c .args .amount) (c .pre .sound) (subst (λ (d : Direction). c .args .amount ≤ weight-by d (pipe-of r) (r .flow)) (c .in-Along .is) (c .pre .takes))
+      within = along-fits r (c .args .amount) (c .pre .sound) (subst (λ (d : Direction). c .args .amount ≤ weight-by d (pipe-of r) (r .flow)) (c .in-Along .is) (c .pre .takes));
     }
 
 pub returns-in-Against : need.returns-in-Against

@@ -25,11 +25,14 @@ loop-turn-holds g c =
     let w = network-of t in
     let f = flow-of t in
     let via = via-at (c .args .labels .now) in
-    let z : c .args .table .now .junctions - 0 ≡ c .args .table .now .junctions = omega arith in
-    (c .pre .goal, refl, refl,
-     subst (λ (m : ℕ). All (Takes w f (c .args .amount)) (spelled w via m (c .args .goal))) (sym z) (c .pre .takes),
-     subst (λ (m : ℕ). Once (spelled w via m (c .args .goal))) (sym z) (c .pre .once),
-     ap (λ (m : ℕ). pushed f (c .args .amount) (spelled w via m (c .args .goal))) z)
+    let z : c .args .table .now .junctions - 0 ≡ c .args .table .now .junctions = omega arith in (
+      c .pre .goal,
+      refl,
+      refl,
+      subst (λ (m : ℕ). All (Takes w f (c .args .amount)) (spelled w via m (c .args .goal))) (sym z) (c .pre .takes),
+      subst (λ (m : ℕ). Once (spelled w via m (c .args .goal))) (sym z) (c .pre .once),
+      ap (λ (m : ℕ). pushed f (c .args .amount) (spelled w via m (c .args .goal))) z,
+    )
 
 pub returns-in-rest : need.returns-in-rest
 returns-in-rest g c =
@@ -39,13 +42,13 @@ returns-in-rest g c =
     record {
       same = c .loop-turn .inv .1;
       count = c .loop-turn .inv .2;
-      flow = sym (ap (pushed (flow-of (c .loop-turn .table)) (c .args .amount)) none) ∙ c .loop-turn .inv .5
+      flow = sym (ap (pushed (flow-of (c .loop-turn .table)) (c .args .amount)) none) ∙ c .loop-turn .inv .5;
     }
 
 -- the step of a turn is a pipe of the table, and takes the amount
 step-takes : {L : Type 0} (t now : Table) (ls : List (Label L)) (k b c : ℕ) (l : Label L) (s : Step) → k < t .junctions → b < length ls → l ≡ getD ls b l → l .via ≡ Some s
-  → network-of now ≡ network-of t → now .count ≡ t .count → All (Takes (network-of t) (flow-of now) c) (spelled (network-of t) (via-at ls) (t .junctions - k) b)
-  → (s .pipe < now .count) × (c ≤ weight (network-of now) (flow-of now) s)
+    → network-of now ≡ network-of t → now .count ≡ t .count → All (Takes (network-of t) (flow-of now) c) (spelled (network-of t) (via-at ls) (t .junctions - k) b)
+    → (s .pipe < now .count) × (c ≤ weight (network-of now) (flow-of now) s)
 step-takes t now ls k b c l s more inside is step same count all =
     let h = turn-all (network-of t) ls (t .junctions) k b l more inside is s step (Takes (network-of t) (flow-of now) c) all .0 in
     let i = h .0 in
@@ -86,19 +89,20 @@ loop-turn-again g c =
     let all = subst (λ (ss : List Step). All (Takes w f d) ss) more (c .loop-turn .inv .3) in
     let once = subst Once more (c .loop-turn .inv .4) in
     let e : c .tail-of-at .result ≡ tail (network-of (c .args .table .now)) (c .in-Some .step) =
-        c .tail-of-at .ensures ∙ tail-read now s (h .0) _ refl ∙ ap (λ (v : Network). tail v s) (c .loop-turn .inv .1) in
+    c .tail-of-at .ensures ∙ tail-read now s (h .0) _ refl ∙ ap (λ (v : Network). tail v s) (c .loop-turn .inv .1) in
     let below : c .tail-of-at .result < c .loop-turn .table .junctions = subst (λ (x : ℕ). x < now .junctions) (sym (c .tail-of-at .ensures)) (ends-read now (s .direction) (s .pipe) (h .0) .0) in
-    let left = spelled w (via-at ls) (n - (k + 1)) (tail w s) in
-    (omega (arith, ap (λ (v : Network). v .junctions) (c .loop-turn .inv .1)),
-     c .push-step .ensures .same ∙ c .loop-turn .inv .1,
-     c .push-step .ensures .count ∙ c .loop-turn .inv .2,
-     subst (λ (x : ℕ). All (Takes w (flow-of (c .push-step .last .table)) d) (spelled w (via-at ls) (n - (k + 1)) x)) (sym e)
-       (subst (λ (y : List ℕ). All (Takes w y d) left) (sym (c .push-step .ensures .flow)) (takes-others w f d s left (once .0) (all .1))),
-     subst (λ (x : ℕ). Once (spelled w (via-at ls) (n - (k + 1)) x)) (sym e) (once .1),
-     ap (λ (x : ℕ). pushed (flow-of (c .push-step .last .table)) d (spelled w (via-at ls) (n - (k + 1)) x)) e
-       ∙ ap (λ (y : List ℕ). pushed y d left) (c .push-step .ensures .flow)
-       ∙ sym (ap (pushed f d) more)
-       ∙ c .loop-turn .inv .5)
+    let left = spelled w (via-at ls) (n - (k + 1)) (tail w s) in (
+      omega (arith, ap (λ (v : Network). v .junctions) (c .loop-turn .inv .1)),
+      c .push-step .ensures .same ∙ c .loop-turn .inv .1,
+      c .push-step .ensures .count ∙ c .loop-turn .inv .2,
+      subst (λ (x : ℕ). All (Takes w (flow-of (c .push-step .last .table)) d) (spelled w (via-at ls) (n - (k + 1)) x)) (sym e)
+          (subst (λ (y : List ℕ). All (Takes w y d) left) (sym (c .push-step .ensures .flow)) (takes-others w f d s left (once .0) (all .1))),
+      subst (λ (x : ℕ). Once (spelled w (via-at ls) (n - (k + 1)) x)) (sym e) (once .1),
+      ap (λ (x : ℕ). pushed (flow-of (c .push-step .last .table)) d (spelled w (via-at ls) (n - (k + 1)) x)) e
+          ∙ ap (λ (y : List ℕ). pushed y d left) (c .push-step .ensures .flow)
+          ∙ sym (ap (pushed f d) more)
+          ∙ c .loop-turn .inv .5,
+    )
 
 pub returns : need.returns
 returns g c =
@@ -107,5 +111,5 @@ returns g c =
     record {
       same = c .loop-turn .inv .1;
       count = c .loop-turn .inv .2;
-      flow = sym (ap (pushed (flow-of (c .loop-turn .table)) (c .args .amount)) none) ∙ c .loop-turn .inv .5
+      flow = sym (ap (pushed (flow-of (c .loop-turn .table)) (c .args .amount)) none) ∙ c .loop-turn .inv .5;
     }

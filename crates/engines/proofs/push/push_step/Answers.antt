@@ -19,16 +19,35 @@ moved-requires c κs =
     record {
       limited = subst (λ (r : Row). Limited r) (getD-default (t .rows) k no-row read-row (let a = t .long in let b = t .held in let d = c .pre .inside in omega arith)) (t .limited k (c .pre .inside));
       sound = sound-read t k (c .pre .inside);
-      takes = omega arith
+      takes = omega arith;
     }
 
 pub ghost-table : need.ghost-table
 ghost-table c =
     let t = c .args .table .now in
     let k = c .args .step .pipe in
-    let x = c .moved .result in
-    (t .two, (t .most, (t .pumped, (t .drained, (t .apart, (length-set (t .rows) k _ ∙ t .long, (t .held,
-      (joined-after t k x (c .pre .inside), (limited-after t k x (c .pre .inside), (flowing-after t k x (c .pre .inside) (c .moved .ensures .within), tt))))))))))
+    let x = c .moved .result in (
+      t .two,
+      (
+        t .most,
+        (
+          t .pumped,
+          (
+            t .drained,
+            (
+              t .apart,
+              (
+                length-set (t .rows) k _ ∙ t .long,
+                (
+                  t .held,
+                  (joined-after t k x (c .pre .inside), (limited-after t k x (c .pre .inside), (flowing-after t k x (c .pre .inside) (c .moved .ensures .within), tt))),
+                ),
+              ),
+            ),
+          ),
+        ),
+      ),
+    )
 
 pub returns : need.returns
 returns c =
@@ -38,5 +57,5 @@ returns c =
     record {
       same = ap (λ (ps : List Pipe). record { junctions = t .junctions; pump = t .pump; outlet = t .outlet; pipes = ps }) (pipes-after t k x (c .pre .inside));
       count = refl;
-      flow = push-row t (c .args .step) (c .args .amount) x (c .pre .inside) (c .moved .ensures .is)
+      flow = push-row t (c .args .step) (c .args .amount) x (c .pre .inside) (c .moved .ensures .is);
     }

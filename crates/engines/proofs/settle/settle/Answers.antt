@@ -21,7 +21,7 @@ fill-count-requires g c κs =
     record {
       places = c .pre .places;
       flow = subst (λ (f : List ℕ). Flow w f) (sym (c .pre .dry)) (dry-flow w (table-wired t));
-      forth = subst (λ (f : List ℕ). inflow w f (w .pump) ≤ outflow w f (w .pump)) (sym (c .pre .dry)) (dry-forth w (table-wired t))
+      forth = subst (λ (f : List ℕ). inflow w f (w .pump) ≤ outflow w f (w .pump)) (sym (c .pre .dry)) (dry-forth w (table-wired t));
     }
 
 pub returns : need.returns
@@ -33,11 +33,11 @@ returns g c =
     let e = c .fill-count .ensures .same in
     let flow : Flow (network-of (c .fill-count .last .table)) (flow-of (c .fill-count .last .table)) = subst (λ (w : Network). Flow w f) (sym e) (c .fill-count .ensures .flow) in
     let none : (ss : List Step) → Path (network-of (c .fill-count .last .table)) (flow-of (c .fill-count .last .table)) (c .fill-count .last .table .pump) ss (c .fill-count .last .table .outlet) → ⊥ =
-        λ ss p. c .fill-count .ensures .done ss (subst (λ (w : Network). Path w f (w .pump) ss (w .outlet)) e p) in
+    λ ss p. c .fill-count .ensures .done ss (subst (λ (w : Network). Path w f (w .pump) ss (w .outlet)) e p) in
     record {
       same = e;
       balanced = balance (network-of u) f flow;
       valued = full-forth (network-of u) (table-wired u) f flow none _ (c .report .ensures .value);
       report = c .report .ensures .whole flow none ∙ ap report-of e;
-      count = subst (λ (h : List ℕ). Fills (network-of t) (m .good) (m .start) (m .extended) h (c .fill-count .result) f) (c .pre .dry) (c .fill-count .ensures .count)
+      count = subst (λ (h : List ℕ). Fills (network-of t) (m .good) (m .start) (m .extended) h (c .fill-count .result) f) (c .pre .dry) (c .fill-count .ensures .count);
     }

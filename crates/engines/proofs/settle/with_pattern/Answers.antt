@@ -25,12 +25,13 @@ loop-k-again c =
     let inside : c .loop-k .k < length (c .loop-k .rows) = omega (arith, c .loop-k .inv .0, c .args .table .now .held) in
     let of : c .loop-k .k < length (c .args .table .now .rows) = omega (arith, c .args .table .now .long, c .args .table .now .held) in
     let e = c .set-row .ensures .pipe in
-    let old : getD (c .args .table .now .rows) (c .loop-k .k) no-row ≡ getD (c .args .table .now .rows) (c .loop-k .k) read-row = getD-default (t .rows) k no-row read-row of in
-    (length-set rows k r ∙ c .loop-k .inv .0,
-     lettered-more rows (t .rows) bs k r read-row inside of (omega (arith, c .pre)) e (c .loop-k .inv .1),
-     each-more (Joined (t .junctions)) rows k r inside (joined-set (t .junctions) (setting-of (getD bs k 0)) (getD (t .rows) k read-row) r e (subst (λ (x : Row). Joined (t .junctions) x) old (t .joined k (c .loop-k-test .taken)))) (c .loop-k .inv .2),
-     each-more Limited rows k r inside (limited-set (setting-of (getD bs k 0)) (getD (t .rows) k read-row) r e (subst (λ (x : Row). Limited x) old (t .limited k (c .loop-k-test .taken)))) (c .loop-k .inv .3),
-     each-more Dry rows k r inside (c .set-row .ensures .dry) (c .loop-k .inv .4))
+    let old : getD (c .args .table .now .rows) (c .loop-k .k) no-row ≡ getD (c .args .table .now .rows) (c .loop-k .k) read-row = getD-default (t .rows) k no-row read-row of in (
+      length-set rows k r ∙ c .loop-k .inv .0,
+      lettered-more rows (t .rows) bs k r read-row inside of (omega (arith, c .pre)) e (c .loop-k .inv .1),
+      each-more (Joined (t .junctions)) rows k r inside (joined-set (t .junctions) (setting-of (getD bs k 0)) (getD (t .rows) k read-row) r e (subst (λ (x : Row). Joined (t .junctions) x) old (t .joined k (c .loop-k-test .taken)))) (c .loop-k .inv .2),
+      each-more Limited rows k r inside (limited-set (setting-of (getD bs k 0)) (getD (t .rows) k read-row) r e (subst (λ (x : Row). Limited x) old (t .limited k (c .loop-k-test .taken)))) (c .loop-k .inv .3),
+      each-more Dry rows k r inside (c .set-row .ensures .dry) (c .loop-k .inv .4),
+    )
 
 pub returns : need.returns
 returns c =
@@ -41,10 +42,10 @@ returns c =
     let few : c .args .table .now .count ≤ length (c .loop-k .rows) = omega (arith, c .loop-k .inv .0, c .args .table .now .held) in
     let letters : take (c .args .table .now .count) (c .args .letters .now) ≡ c .args .letters .now = take-all (t .count) bs (omega (arith, c .pre)) in
     let pipes : map pipe-of (take (c .args .table .now .count) (c .loop-k .rows)) ≡ lettered (c .args .letters .now) (map pipe-of (take (c .args .table .now .count) (c .args .table .now .rows))) =
-        subst (λ (n : ℕ). map pipe-of (take n rows) ≡ lettered (take n bs) (map pipe-of (take n (t .rows)))) all (c .loop-k .inv .1)
-        ∙ ap (λ (ls : List ℕ). lettered ls (map pipe-of (take (t .count) (t .rows)))) letters in
+    subst (λ (n : ℕ). map pipe-of (take n rows) ≡ lettered (take n bs) (map pipe-of (take n (t .rows)))) all (c .loop-k .inv .1)
+    ∙ ap (λ (ls : List ℕ). lettered ls (map pipe-of (take (t .count) (t .rows)))) letters in
     let size : length (map pipe-of (take (c .args .table .now .count) (c .loop-k .rows))) ≡ c .args .table .now .count = length-map (take (t .count) rows) pipe-of ∙ length-take-le (t .count) rows few in
     record {
       network = ap (λ (ps : List Pipe). record { junctions = t .junctions; pump = t .pump; outlet = t .outlet; pipes = ps }) pipes;
-      dry = dry-rows rows (t .count) few (subst (λ (n : ℕ). Each Dry rows n) all (c .loop-k .inv .4)) ∙ ap (λ (n : ℕ). replicate n 0) (sym size)
+      dry = dry-rows rows (t .count) few (subst (λ (n : ℕ). Each Dry rows n) all (c .loop-k .inv .4)) ∙ ap (λ (n : ℕ). replicate n 0) (sym size);
     }

@@ -16,6 +16,6 @@ returns g c =
     let e = c .args .self .now in
     record {
       answer = pipe-asked 64 _ (omega arith) (network-of (e .table)) (c .args .pipe) (e .report) (c .governs .result) (omega (arith, table-size (e .table)))
-        (same-report (e .report) (report-of (network-of (e .table))) (e .value) (e .near) (e .far)) (c .governs .ensures .test);
-      kept = tt
+          (same-report (e .report) (report-of (network-of (e .table))) (e .value) (e .near) (e .far)) (c .governs .ensures .test);
+      kept = tt;
     }

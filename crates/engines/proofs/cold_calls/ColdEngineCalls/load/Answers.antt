@@ -17,14 +17,14 @@ settle-requires g c κs =
     let got = c .in-Continue-table .ensures tt in
     record {
       places = omega (arith, got .1, c .if-work-lt-MOST-JUNCTIONS .left);
-      dry = dry-table (c .in-Continue-table .table) (got .2)
+      dry = dry-table (c .in-Continue-table .table) (got .2);
     }
 
 pub returns-in-Break-table : need.returns-in-Break-table
 returns-in-Break-table g c =
     let p = err-from-errBy (c .from-residual .result) (c .from-residual .ensures .1) in
     rw (p .1, p .2)
-      (load-missed 64 _ (c .if-work-lt-MOST-JUNCTIONS .left) (c .args .text .now) _ (sym (fresh 64 (c .new-reader .result) (c .args .text .now) (c .new-reader .ensures)) ∙ c .in-Break-table .ensures tt), refl, refl)
+    (load-missed 64 _ (c .if-work-lt-MOST-JUNCTIONS .left) (c .args .text .now) _ (sym (fresh 64 (c .new-reader .result) (c .args .text .now) (c .new-reader .ensures)) ∙ c .in-Break-table .ensures tt), refl, refl)
 
 pub returns : need.returns
 returns g c =
@@ -34,6 +34,6 @@ returns g c =
     let same = got .3 .same-text ∙ c .new-reader .ensures .0 in
     let whole : reader .text .now ≡ c .args .text .now = same in
     let read : sheet-in 64 1 (c .args .text .now) ≡ Ok (network-of (c .in-Continue-table .table), drop (reader .at) (c .args .text .now)) =
-        sym (fresh 64 (c .new-reader .result) text (c .new-reader .ensures)) ∙ got .0 ∙ ap (λ (bs : List ℕ). Ok (network-of (c .in-Continue-table .table), drop (reader .at) bs)) same in
+    sym (fresh 64 (c .new-reader .result) text (c .new-reader .ensures)) ∙ got .0 ∙ ap (λ (bs : List ℕ). Ok (network-of (c .in-Continue-table .table), drop (reader .at) bs)) same in
     load-done 64 _ (c .if-work-lt-MOST-JUNCTIONS .left) text (network-of (c .in-Continue-table .table)) (reader .at) (omega (arith, reader .within, ap length same)) read
     ∙ ap (λ (w : Network). Ok (w, reader .at)) (sym (c .settle .ensures .same))

@@ -38,8 +38,9 @@ returns g c =
     let long : length (c .args .letters .now) ≡ size (network-of (c .args .self .now .table)) = omega (arith, table-size t) in
     let same = c .settle-count .ensures .same in
     let fits : c .settle-count .result .0 .value < 2 ^ 32 = omega arith in
-    let fits′ : c .args .self .now .report .value < 2 ^ 32 = omega arith in
-    (pattern-done 64 _ (c .if-work-lt-MOST-JUNCTIONS .left) (network-of t) bs long (c .in-Continue-check-pattern .ensures tt) ∙ ap (λ (w : Network). Ok w) (sym (same ∙ c .with-pattern-table .ensures .network)),
-     signed-change (c .settle-count .result .0 .value) (e .report .value) (report-of (network-of u) .value) (report-of (network-of t) .value) fits fits′
-       (ap (λ (r : Report). r .value) (c .settle-count .ensures .report ∙ ap report-of (sym same))) (e .value),
-     subst (λ (w : Network). Fills w (m .good) (m .start) (m .extended) (dry w) (c .settle-count .result .1) (flow-of u)) (sym same) (c .settle-count .ensures .count))
+    let fits′ : c .args .self .now .report .value < 2 ^ 32 = omega arith in (
+      pattern-done 64 _ (c .if-work-lt-MOST-JUNCTIONS .left) (network-of t) bs long (c .in-Continue-check-pattern .ensures tt) ∙ ap (λ (w : Network). Ok w) (sym (same ∙ c .with-pattern-table .ensures .network)),
+      signed-change (c .settle-count .result .0 .value) (e .report .value) (report-of (network-of u) .value) (report-of (network-of t) .value) fits fits′
+          (ap (λ (r : Report). r .value) (c .settle-count .ensures .report ∙ ap report-of (sym same))) (e .value),
+      subst (λ (w : Network). Fills w (m .good) (m .start) (m .extended) (dry w) (c .settle-count .result .1) (flow-of u)) (sym same) (c .settle-count .ensures .count),
+    )
