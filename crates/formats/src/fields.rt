@@ -5,7 +5,7 @@ ghost use Rattle.std.specs.declared.option.Option.the-variants.{Some, None};
 ghost use Rattle.formats.specs.Fields.{digits-from, number-in, written};
 ghost use Rattle.formats.specs.Spaces.{put-at};
 
-const BLANK: u8 = b' ';
+pub const BLANK: u8 = b' ';
 
 // One more than the greatest number that is read.
 const OVERFLOW: u64 = 4294967296;

@@ -8,6 +8,7 @@ ghost use Rattle.network.specs.Rows.{Each, Joined, Limited, Dry};
 ghost use Rattle.network.specs.Pipes.{pipe-of, network-of};
 ghost use Rattle.formats.specs.Readers.{rest, Advanced, Went};
 ghost use Rattle.formats.specs.Sheets.{of-kind, due, ranged, number-at, header, valve-at, pipe-in, header-in, next-pipe, pipes-in, sheet-in, Sound-header, Dry-rows};
+use crate::fields::BLANK;
 use crate::fields::read_number;
 use crate::header::Header;
 use crate::letters::read_valve;
@@ -27,8 +28,6 @@ const FIELD_COLUMNS: usize = 5;
 const SHEET_COLUMNS: usize = 24;
 
 const MOST_LIMIT: usize = 60_000;
-
-const BLANK: u8 = b' ';
 
 fn is_kind(bytes: &[u8], kind: &[u8; 4]) -> bool
     requires { ⌜ 4 ≤ length (now bytes) ⌝ }
@@ -107,6 +106,7 @@ impl Line<'_> {
         requires { ⌜ length (now (now self .bytes)) ≡ 24 ⌝ }
         ensures { λ r. ⌜ r ≡ valve-at (now (self .entry) .number) (now (now (self .entry) .bytes)) ⌝ }
     {
+        // columns 20 to 23 are blank, and column 24 has the valve's letter
         let b = self.bytes;
         if (b[19] != BLANK) | (b[20] != BLANK) | (b[21] != BLANK) | (b[22] != BLANK) {
             return Err(Refusal::BadNumber(self.number));
