@@ -1,0 +1,4 @@
+pub mod extent;
+pub mod page;
+pub mod text;
+pub mod theorems;
