@@ -6,4 +6,5 @@ pub mod Patterns
 pub mod PipeLines
 pub mod PageLines
 pub mod Puts
+pub mod Spelled
 pub mod StepLines

@@ -7,3 +7,4 @@ pub mod Refusals
 pub mod Schedules
 pub mod Sheets
 pub mod Spaces
+pub mod Written
