@@ -7,5 +7,6 @@ pub mod Patterns
 pub mod PipeLines
 pub mod PageLines
 pub mod Puts
+pub mod SheetTexts
 pub mod Spelled
 pub mod StepLines

@@ -31,6 +31,22 @@ Feedless bs = All (λ (b : ℕ). b ≡ 10 → ⊥) bs
 pub feedless-then : (xs ys : List ℕ) → Feedless xs → Feedless ys → Feedless (xs ++ ys)
 feedless-then xs ys p q = all-append (λ (b : ℕ). b ≡ 10 → ⊥) xs ys p q
 
+-- of bytes that are known, by a test
+abbrev lacks-feed : List ℕ → Bool
+lacks-feed [] = true
+lacks-feed (b ∷ bs) = cond (in-line b) (lacks-feed bs) false
+
+kept-on : (x y : Bool) → cond x y false ≡ true → (x ≡ true) × (y ≡ true)
+kept-on true y e = (refl, e)
+kept-on false y e = absurd (let z : _≡_ {A = ℕ} 0 1 = cc in omega arith)
+
+pub feedless : (bs : List ℕ) → lacks-feed bs ≡ true → Feedless bs
+feedless [] e = tt
+feedless (b ∷ bs) e =
+    let k = kept-on (in-line b) (lacks-feed bs) e in
+    let p : in-line b ≡ true = k .0 in
+    ((λ q. absurd (grind (arith, tells))), feedless bs (k .1))
+
 padded-feedless : (w n : ℕ) → Feedless (padded w n)
 padded-feedless zero n = tt
 padded-feedless (suc w) n = feedless-then (padded w (n / 10)) (digit-or-blank n ∷ []) (padded-feedless w (n / 10)) ((λ e. absurd (grind (arith, tells))), tt)
