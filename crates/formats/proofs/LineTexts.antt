@@ -149,6 +149,11 @@ pub and-split : {A B : Type 0} (r : Result A Refusal) (f : A → Result B Refusa
 and-split (Ok x) f y e = (x, (refl, e))
 and-split (Err d) f y e = absurd (let z : _≡_ {A = ℕ} 0 1 = cc in omega arith)
 
+pub ok-both : {A B : Type 0} (a c : A) (b d : B) → _≡_ {A = Result (A × B) Refusal} (Ok (a, b)) (Ok (c, d)) → (a ≡ c) × (b ≡ d)
+ok-both {A} {B} a c b d e =
+    let p : _≡_ {A = A × B} (a, b) (c, d) = cc in
+    (ap (λ (x : A × B). x .0) p, ap (λ (x : A × B). x .1) p)
+
 -- a number in its field
 pub number-written : (i k least most : ℕ) (bs : List ℕ) (v : ℕ) → take 5 (drop (4 + 5 * k) bs) ≡ written 5 v → least ≤ v → v ≤ most → v ≤ 60000 → Ok v ≡ number-at i k least most bs
 number-written i k least most bs v e h l b =
