@@ -1,4 +1,5 @@
 pub mod Fields
+pub mod Laws
 pub mod Letters
 pub mod Lines
 pub mod Pages

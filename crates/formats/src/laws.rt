@@ -1,0 +1,15 @@
+ghost use Prim.Native.Nat.{ℕ, _≤_};
+ghost use Rattle.network.specs.Network.{Network, Sound};
+ghost use Rattle.formats.specs.Laws.{SheetLaws, OneSheet};
+
+// These functions do nothing: each stands for the law in its contract, so that no check passes without its proof.
+
+// A text is accepted as a network exactly when it begins with the sheet of that network.
+pub fn sheets_read_back()
+    ensures { λ _. ⌜ ((most : ℕ) → most ≤ 64 → SheetLaws most) ⌝ }
+{}
+
+// Two networks have different sheets.
+pub fn sheets_differ()
+    ensures { λ _. ⌜ ((w u : Network) → Sound w → Sound u → OneSheet w u) ⌝ }
+{}
