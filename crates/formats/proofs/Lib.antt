@@ -7,6 +7,7 @@ pub mod Patterns
 pub mod PipeLines
 pub mod PageLines
 pub mod Puts
+pub mod ScheduleTexts
 pub mod SheetLaws
 pub mod SheetTexts
 pub mod Spelled

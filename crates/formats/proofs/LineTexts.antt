@@ -56,6 +56,10 @@ unfolding written
 written-feedless zero n = tt
 written-feedless (suc w) n = feedless-then (padded w (n / 10)) ((48 + n % 10) ∷ []) (padded-feedless w (n / 10)) ((λ e. omega arith), tt)
 
+-- a line, its line feed, and what follows
+pub line-then : (l xs ys : List ℕ) → ((l ++ 10 ∷ []) ++ xs) ++ ys ≡ l ++ 10 ∷ (xs ++ ys)
+line-then l xs ys = append-assoc (l ++ 10 ∷ []) xs ys ∙ append-assoc l (10 ∷ []) (xs ++ ys)
+
 leading-line : (l more : List ℕ) → Feedless l → leading in-line (l ++ 10 ∷ more) ≡ length l
 leading-line [] more h = refl
 leading-line (b ∷ l) more (n, h) =

@@ -29,11 +29,7 @@ use Rattle.formats.specs.Sheets.{and-then, of-kind, due, number-at, header, So
 use Rattle.formats.specs.Written.{valve-letter, header-columns, header-line, pipe-columns, pipe-line, sheet-of}
 use Rattle.formats.proofs.Digits.{length-written}
 use Rattle.formats.proofs.Numbers.{and-ok}
-use Rattle.formats.proofs.LineTexts.{Feedless, feedless, feedless-then, written-feedless, line-after, due-written, Due, due-read, kind-read, and-split, ok-both, number-written, Number, number-read, field-first, field-past, fields-split}
-
--- a line, its line feed, and what follows
-line-then : (l xs ys : List ℕ) → ((l ++ 10 ∷ []) ++ xs) ++ ys ≡ l ++ 10 ∷ (xs ++ ys)
-line-then l xs ys = append-assoc (l ++ 10 ∷ []) xs ys ∙ append-assoc l (10 ∷ []) (xs ++ ys)
+use Rattle.formats.proofs.LineTexts.{Feedless, feedless, feedless-then, written-feedless, line-then, line-after, due-written, Due, due-read, kind-read, and-split, ok-both, number-written, Number, number-read, field-first, field-past, fields-split}
 
 length-four : (a b c d : List ℕ) → length a ≡ 5 → length b ≡ 5 → length c ≡ 5 → length d ≡ 5 → length (a ++ (b ++ (c ++ d))) ≡ 20
 length-four a b c d p q r s = simp length-append (omega arith)

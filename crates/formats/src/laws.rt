@@ -1,6 +1,6 @@
 ghost use Prim.Native.Nat.{ℕ, _≤_};
 ghost use Rattle.network.specs.Network.{Network, Sound};
-ghost use Rattle.formats.specs.Laws.{SheetLaws, OneSheet};
+ghost use Rattle.formats.specs.Laws.{SheetLaws, OneSheet, ScheduleLaws};
 
 // These functions do nothing: each stands for the law in its contract, so that no check passes without its proof.
 
@@ -12,4 +12,9 @@ pub fn sheets_read_back()
 // Two networks have different sheets.
 pub fn sheets_differ()
     ensures { λ _. ⌜ ((w u : Network) → Sound w → Sound u → OneSheet w u) ⌝ }
+{}
+
+// A text is accepted as a schedule exactly when it is the schedule of those steps; two lists of steps have different schedules.
+pub fn schedules_read_back()
+    ensures { λ _. ⌜ ((pipes : ℕ) → ScheduleLaws pipes) ⌝ }
 {}
