@@ -23,13 +23,13 @@ module _ (most : ℕ) (held : most ≤ 64) where
   read-written : (i : ℕ) (bs : List ℕ) (w : Network) (more : List ℕ) → sheet-in most i bs ≡ Ok (w, more) → Accepted most w × (bs ≡ sheet-of w ++ more)
   read-written i bs w more e = let r = sheet-read most i bs w more held e in (record { sound = r .1; few = r .2 }, r .0)
 
-  taken : (w : Network) → Accepted most w → (i : ℕ) (bs : List ℕ) (n : ℕ) → n ≤ length bs → (sheet-in most i bs ≡ Ok (w, drop n bs)) ↔ (take n bs ≡ sheet-of w)
-  taken w a i bs n h =
+  taken : (i : ℕ) (bs : List ℕ) (w : Network) (n : ℕ) → n ≤ length bs → (sheet-in most i bs ≡ Ok (w, drop n bs)) ↔ (Accepted most w × (take n bs ≡ sheet-of w))
+  taken i bs w n h =
       ((λ e.
-      let r = read-written i bs w (drop n bs) e .1 in
-      let l : length (sheet-of w) ≡ n = omega (arith, ap length r, length-append (sheet-of w) (drop n bs), length-drop n bs) in
-      ap (take n) r ∙ take-at (sheet-of w) (drop n bs) n l),
-      (λ e. ap (sheet-in most i) (sym (take-append-drop n bs) ∙ ap (λ (x : List ℕ). x ++ drop n bs) e) ∙ written-read w a i (drop n bs)))
+      let r = read-written i bs w (drop n bs) e in
+      let l : length (sheet-of w) ≡ n = omega (arith, ap length (r .1), length-append (sheet-of w) (drop n bs), length-drop n bs) in
+      (r .0, ap (take n) (r .1) ∙ take-at (sheet-of w) (drop n bs) n l)),
+      (λ p. ap (sheet-in most i) (sym (take-append-drop n bs) ∙ ap (λ (x : List ℕ). x ++ drop n bs) (p .1)) ∙ written-read w (p .0) i (drop n bs)))
 
   -- what was neither refused nor read
   none-left : (i : ℕ) (bs : List ℕ) → ((w : Network) (more : List ℕ) → Accepted most w → bs ≡ sheet-of w ++ more → ⊥) → (r : Result (Network × List ℕ) Refusal) → sheet-in most i bs ≡ r → (e : Refusal) × (sheet-in most i bs ≡ Err e)

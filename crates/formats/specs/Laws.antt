@@ -23,7 +23,7 @@ pub record SheetLaws (most : ℕ) : Type 0 where
   -- a sheet that is read was written so: no other sheet gives this network
   pub read-written : (i : ℕ) (bs : List ℕ) (w : Network) (more : List ℕ) → sheet-in most i bs ≡ Ok (w, more) → Accepted most w × (bs ≡ sheet-of w ++ more)
   -- a text is accepted as w with n bytes taken exactly when its first n bytes are the sheet of w
-  pub taken : (w : Network) → Accepted most w → (i : ℕ) (bs : List ℕ) (n : ℕ) → n ≤ length bs → (sheet-in most i bs ≡ Ok (w, drop n bs)) ↔ (take n bs ≡ sheet-of w)
+  pub taken : (i : ℕ) (bs : List ℕ) (w : Network) (n : ℕ) → n ≤ length bs → (sheet-in most i bs ≡ Ok (w, drop n bs)) ↔ (Accepted most w × (take n bs ≡ sheet-of w))
   -- a text is refused exactly when it begins with no sheet
   pub refused : (i : ℕ) (bs : List ℕ) → ((e : Refusal) × (sheet-in most i bs ≡ Err e)) ↔ ((w : Network) (more : List ℕ) → Accepted most w → bs ≡ sheet-of w ++ more → ⊥)
 
