@@ -1,5 +1,6 @@
 pub mod Digits
 pub mod Ends
+pub mod FirstMissed
 pub mod LineTexts
 pub mod Moves
 pub mod Numbers

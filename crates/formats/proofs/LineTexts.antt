@@ -122,7 +122,7 @@ pub record Due (kind : List ℕ) (columns : ℕ) (bs l : List ℕ) : Type 0 wher
   pub long : length l ≡ columns
   pub kinded : of-kind kind l ≡ true
 
-tests : (x y z : Bool) (i : ℕ) (k l : List ℕ) → cond {A = Result (List ℕ) Refusal} (x && y) (cond z (Ok k) (Err (WrongKind i))) (Err (BadLine i)) ≡ Ok l → (x ≡ true) × (y ≡ true) × (z ≡ true) × (k ≡ l)
+pub tests : (x y z : Bool) (i : ℕ) (k l : List ℕ) → cond {A = Result (List ℕ) Refusal} (x && y) (cond z (Ok k) (Err (WrongKind i))) (Err (BadLine i)) ≡ Ok l → (x ≡ true) × (y ≡ true) × (z ≡ true) × (k ≡ l)
 tests true true true i k l e = (refl, refl, refl, cc)
 tests true true false i k l e = absurd (let z : _≡_ {A = ℕ} 0 1 = cc in omega arith)
 tests true false z i k l e = absurd (let z : _≡_ {A = ℕ} 0 1 = cc in omega arith)
@@ -167,7 +167,7 @@ number-written i k least most bs v e h l b =
 abbrev pub Number : ℕ → ℕ → ℕ → List ℕ → ℕ → Type 0
 Number k least most bs v = (take 5 (drop (4 + 5 * k) bs) ≡ written 5 v) × (least ≤ v) × (v ≤ most)
 
-ranged-read : (i least most : ℕ) (o : Option ℕ) (v : ℕ) → ranged i least most o ≡ Ok v → (o ≡ Some v) × (least ≤ v) × (v ≤ most)
+pub ranged-read : (i least most : ℕ) (o : Option ℕ) (v : ℕ) → ranged i least most o ≡ Ok v → (o ≡ Some v) × (least ≤ v) × (v ≤ most)
 ranged-read i least most None v e = absurd (let z : _≡_ {A = ℕ} 0 1 = cc in omega arith)
 ranged-read i least most (Some n) v e = go (leb least n && leb n most) refl e
   where

@@ -188,7 +188,7 @@ sheet-written most i w more sound few =
     ∙ ap (λ r. and-then r built) (pipes-written (w .pipes) [] (w .junctions) (i + 1) more (sound .most) (sound .wired .joins) (sound .limited))
 
 -- two ends that were found different
-ends-read : {A : Type 0} (a b i : ℕ) (x y : A) → cond {A = Result A Refusal} (eqb a b) (Err (SameEnds i)) (Ok x) ≡ Ok y → (a ≢ b) × (x ≡ y)
+pub ends-read : {A : Type 0} (a b i : ℕ) (x y : A) → cond {A = Result A Refusal} (eqb a b) (Err (SameEnds i)) (Ok x) ≡ Ok y → (a ≢ b) × (x ≡ y)
 ends-read {A} a b i x y e = go (eqb a b) refl e
   where
     go : (t : Bool) → eqb a b ≡ t → cond {A = Result A Refusal} t (Err (SameEnds i)) (Ok x) ≡ Ok y → (a ≢ b) × (x ≡ y)

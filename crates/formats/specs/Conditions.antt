@@ -108,5 +108,6 @@ steps-conditions (suc k) pipes i bs =
 -- a schedule from line i on
 unfoldable pub schedule-conditions : ℕ → ℕ → List ℕ → List Condition
 schedule-conditions pipes i bs =
-    (line-conditions (codes "SCHD") 9 i bs ++ number-conditions i 1 100 (field 0 (first-line bs)))
-    ++ steps-conditions (number-or (field 0 (first-line bs))) pipes (i + 1) (after-line bs)
+    line-conditions (codes "SCHD") 9 i bs
+    ++ (number-conditions i 1 100 (field 0 (first-line bs))
+    ++ steps-conditions (number-or (field 0 (first-line bs))) pipes (i + 1) (after-line bs))

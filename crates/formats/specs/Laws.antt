@@ -5,9 +5,11 @@ use mathlib.Core.Logic.{_↔_}
 use Prim.Native.Nat.{ℕ, _≤_}
 use lib.ListN.{length, take, drop}
 use Rattle.std.specs.shelf.Lists.{All}
+use Rattle.std.specs.declared.option.Option.the-variants.{Some}
 use Rattle.std.specs.declared.result.Result.the-variants.{Ok, Err}
 use Rattle.network.specs.Network.{Network, Sound}
 use Rattle.formats.specs.declared.refusal.Refusal.{Refusal}
+use Rattle.formats.specs.Conditions.{first-missed, sheet-conditions, schedule-conditions}
 use Rattle.formats.specs.Schedules.{Timed, Sound-step, schedule-in}
 use Rattle.formats.specs.Sheets.{sheet-in}
 use Rattle.formats.specs.Written.{sheet-of, schedule-of}
@@ -46,3 +48,8 @@ pub record ScheduleLaws (pipes : ℕ) : Type 0 where
   pub refused : (i : ℕ) (bs : List ℕ) → ((e : Refusal) × (schedule-in pipes i bs ≡ Err e)) ↔ ((ss : List Timed) → Sound-schedule pipes ss → bs ≡ schedule-of ss → ⊥)
   -- two lists of steps have different schedules
   pub one : (ss ts : List Timed) → Sound-schedule pipes ss → Sound-schedule pipes ts → schedule-of ss ≡ schedule-of ts → ss ≡ ts
+
+-- each refusal is given exactly when its condition is the first missed
+pub record RefusalLaws : Type 0 where
+  pub sheets : (most i : ℕ) (bs : List ℕ) (e : Refusal) → (sheet-in most i bs ≡ Err e) ↔ (first-missed (sheet-conditions most i bs) ≡ Some e)
+  pub schedules : (pipes i : ℕ) (bs : List ℕ) (e : Refusal) → (schedule-in pipes i bs ≡ Err e) ↔ (first-missed (schedule-conditions pipes i bs) ≡ Some e)

@@ -1,6 +1,6 @@
 ghost use Prim.Native.Nat.{ℕ, _≤_};
 ghost use Rattle.network.specs.Network.{Network, Sound};
-ghost use Rattle.formats.specs.Laws.{SheetLaws, OneSheet, ScheduleLaws};
+ghost use Rattle.formats.specs.Laws.{SheetLaws, OneSheet, ScheduleLaws, RefusalLaws};
 
 // These functions do nothing: each stands for the law in its contract, so that no check passes without its proof.
 
@@ -17,4 +17,9 @@ pub fn sheets_differ()
 // A text is accepted as a schedule exactly when it is the schedule of those steps; two lists of steps have different schedules.
 pub fn schedules_read_back()
     ensures { λ _. ⌜ ((pipes : ℕ) → ScheduleLaws pipes) ⌝ }
+{}
+
+// Each refusal is given exactly when its condition is the first missed, in the order of lines and fields.
+pub fn refusals_in_order()
+    ensures { λ _. ⌜ RefusalLaws ⌝ }
 {}
