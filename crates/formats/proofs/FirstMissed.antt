@@ -1,13 +1,13 @@
 -- A refusal is that of the first condition missed.
-use mathlib.Core.Path.{_≡_, refl, sym, ap, subst, _∙_}
+use mathlib.Core.Path.{_≡_, refl, sym, ap, _∙_}
 use mathlib.Core.Bool.{Bool, true, false, cond, not, _&&_}
 use mathlib.Core.List.{List, [], _∷_, _++_}
 use mathlib.Core.Logic.{_↔_}
-use Prim.Native.Nat.{ℕ, zero, suc, _+_, _-_, _*_, _<_, _≤_}
+use Prim.Native.Nat.{ℕ, zero, suc, _+_, _-_}
 use native.Mathlib.Omega.{arith}
 use lib.Dec.{eqb, leb}
 use lib.Chars.{codes}
-use lib.ListN.{length, take, drop, getD}
+use lib.ListN.{length, drop, getD}
 use Rattle.std.specs.Options.{isSome}
 use Rattle.std.specs.declared.option.Option.{Option}
 use Rattle.std.specs.declared.option.Option.the-variants.{Some, None}
@@ -23,7 +23,7 @@ use Rattle.formats.specs.Laws.{RefusalLaws}
 use Rattle.formats.specs.Letters.{valve-of, is-pattern}
 use Rattle.formats.specs.Lines.{ended, first-line, after-line}
 use Rattle.formats.specs.Sheets.{and-then, of-kind, due, ranged, number-at, header, header-in, blank, lettered, valve-at, pipe-in, next-pipe, pipes-in, sheet-in}
-use Rattle.formats.specs.Schedules.{Timed, step-in, next-step, steps-in, next-count, schedule-in}
+use Rattle.formats.specs.Schedules.{Timed, step-in, next-step, steps-in, schedule-in}
 use Rattle.formats.proofs.LineTexts.{tests, and-split, ranged-read}
 use Rattle.formats.proofs.SheetTexts.{ends-read}
 
@@ -112,7 +112,7 @@ unfolding first-missed
 pipes-missed zero n i bs ps = refl
 pipes-missed (suc k) n i bs ps =
     chain (next-pipe n i bs) _ (line-conditions (codes "PIPE") 24 i bs ++ pipe-conditions n i (first-line bs)) (pipes-conditions k n (i + 1) (after-line bs)) (next-pipe-missed n i bs)
-        (λ p e. pipes-missed k n (i + 1) (after-line bs) (ps ++ p ∷ []))
+    (λ p e. pipes-missed k n (i + 1) (after-line bs) (ps ++ p ∷ []))
 
 is-number : (i least most : ℕ) (o : Option ℕ) (v : ℕ) → ranged i least most o ≡ Ok v → number-or o ≡ v
 is-number i least most o v e = ap number-or (ranged-read i least most o v e .0)
@@ -140,12 +140,12 @@ unfolding sheet-conditions
 sheet-missed most i bs =
     let l = first-line bs in
     chain (header-in most i bs) _ (line-conditions (codes "NETW") 24 i bs ++ header-conditions most i l) _ (due-chain (codes "NETW") 24 i bs (header most i) _ (header-missed most i l))
-        (λ h e.
-        let n = header-in-numbers most i bs h e in
-        let built : List Pipe × List ℕ → Network × List ℕ = λ r. (record { junctions = h .junctions; pump = h .pump; outlet = h .outlet; pipes = r .0 }, r .1) in
-        kept (pipes-in (h .pipes) (h .junctions) (i + 1) (after-line bs) []) built
-        ∙ pipes-missed (h .pipes) (h .junctions) (i + 1) (after-line bs) []
-        ∙ (λ x. first-missed (pipes-conditions (sym (n .1) x) (sym (n .0) x) (i + 1) (after-line bs))))
+    (λ h e.
+    let n = header-in-numbers most i bs h e in
+    let built : List Pipe × List ℕ → Network × List ℕ = λ r. (record { junctions = h .junctions; pump = h .pump; outlet = h .outlet; pipes = r .0 }, r .1) in
+    kept (pipes-in (h .pipes) (h .junctions) (i + 1) (after-line bs) []) built
+    ∙ pipes-missed (h .pipes) (h .junctions) (i + 1) (after-line bs) []
+    ∙ (λ x. first-missed (pipes-conditions (sym (n .1) x) (sym (n .0) x) (i + 1) (after-line bs))))
 
 pattern-missed : (i : ℕ) (t : Bool) (s : Timed) → missed (cond {A = Result Timed Refusal} t (Ok s) (Err (WrongLetter i))) ≡ first-missed (record { met = t; refusal = WrongLetter i } ∷ [])
 unfolding first-missed
@@ -171,7 +171,7 @@ steps-missed zero pipes i j bs ss e = trailing (eqb (length bs) 0) j ss ∙ ap (
 steps-missed (suc k) pipes i j bs ss e =
     ap missed (regroup (next-step pipes i bs) (λ s. steps-in k pipes (i + 1) (after-line bs) (ss ++ s ∷ [])) (at-end j))
     ∙ chain (next-step pipes i bs) _ (line-conditions (codes "STEP") (9 + pipes) i bs ++ step-conditions i (first-line bs)) (steps-conditions k pipes (i + 1) (after-line bs)) (next-step-missed pipes i bs)
-        (λ s f. steps-missed k pipes (i + 1) j (after-line bs) (ss ++ s ∷ []) (omega arith))
+    (λ s f. steps-missed k pipes (i + 1) j (after-line bs) (ss ++ s ∷ []) (omega arith))
 
 pub schedule-missed : (pipes i : ℕ) (bs : List ℕ) → missed (schedule-in pipes i bs) ≡ first-missed (schedule-conditions pipes i bs)
 unfolding schedule-conditions
@@ -187,4 +187,5 @@ refused-with (Err d) o e h = ((λ p. cc), (λ p. let q : d ≡ e = cc in ap (λ 
 pub refusal-laws : RefusalLaws
 refusal-laws = record {
   sheets = λ most i bs e. refused-with (sheet-in most i bs) (first-missed (sheet-conditions most i bs)) e (sheet-missed most i bs);
-  schedules = λ pipes i bs e. refused-with (schedule-in pipes i bs) (first-missed (schedule-conditions pipes i bs)) e (schedule-missed pipes i bs) }
+  schedules = λ pipes i bs e. refused-with (schedule-in pipes i bs) (first-missed (schedule-conditions pipes i bs)) e (schedule-missed pipes i bs);
+}

@@ -1,11 +1,11 @@
 -- A line and its line feed, written and read.
-use mathlib.Core.Path.{_≡_, refl, sym, ap, subst, _∙_}
+use mathlib.Core.Path.{_≡_, refl, sym, ap, _∙_}
 use mathlib.Core.Bool.{Bool, true, false, cond, _&&_}
 use mathlib.Core.List.{List, [], _∷_, _++_, append-assoc}
-use mathlib.Core.Logic.{_⊎_, inl, inr}
-use Prim.Native.Nat.{ℕ, zero, suc, _+_, _-_, _*_, _/_, _%_, _^_, _<_, _≤_}
+use mathlib.Core.Logic.{inl, inr}
+use Prim.Native.Nat.{ℕ, zero, suc, _+_, _*_, _/_, _%_, _<_, _≤_}
 use native.Mathlib.Omega.{arith}
-use lib.Dec.{eqb, leb, ltb}
+use lib.Dec.{eqb, leb}
 use lib.ListN.{length, take, drop, getD, length-append}
 use Rattle.std.specs.shelf.Lists.{leading, All}
 use Rattle.std.specs.declared.option.Option.{Option}
@@ -16,11 +16,11 @@ use Rattle.std.proofs.shelf.Ways.{tells, eqb-tells}
 use Rattle.std.proofs.shelf.Elements.{all-append}
 use Rattle.std.proofs.shelf.Lists.{take-at, drop-at, length-take-le, take-append-drop, length-drop, drop-drop, drop-more}
 use Rattle.formats.specs.declared.refusal.Refusal.{Refusal}
-use Rattle.formats.specs.declared.refusal.Refusal.the-variants.{BadLine, WrongKind, BadNumber, OutOfRange}
+use Rattle.formats.specs.declared.refusal.Refusal.the-variants.{BadLine, WrongKind, OutOfRange}
 use Rattle.formats.specs.Fields.{number-in, digit-or-blank, padded, written}
 use Rattle.formats.specs.Lines.{in-line, ended, first-line, after-line}
 use Rattle.formats.specs.Sheets.{and-then, of-kind, due, ranged, number-at}
-use Rattle.formats.proofs.Digits.{read-back, length-written}
+use Rattle.formats.proofs.Digits.{read-back}
 use Rattle.formats.proofs.Numbers.{inside}
 use Rattle.formats.proofs.Spelled.{spelled}
 
@@ -100,14 +100,15 @@ feed-at [] h = absurd (omega arith)
 feed-at (b ∷ bs) h =
     elim (eqb-tells b 10) [
       | inl q ↦
-        let t : in-line b ≡ false = grind (arith, tells) in
-        let e : leading in-line (b ∷ bs) ≡ 0 = ap (λ (x : Bool). cond {A = ℕ} x (1 + leading in-line bs) 0) t in
-        ap (λ (n : ℕ). getD (b ∷ bs) n 0) e ∙ q .1
+          let t : in-line b ≡ false = grind (arith, tells) in
+          let e : leading in-line (b ∷ bs) ≡ 0 = ap (λ (x : Bool). cond {A = ℕ} x (1 + leading in-line bs) 0) t in
+          ap (λ (n : ℕ). getD (b ∷ bs) n 0) e ∙ q .1
       | inr q ↦
-        let t : in-line b ≡ true = grind (arith, tells) in
-        let e : leading in-line (b ∷ bs) ≡ 1 + leading in-line bs = ap (λ (x : Bool). cond {A = ℕ} x (1 + leading in-line bs) 0) t in
-        let f : leading in-line (b ∷ bs) ≡ suc (leading in-line bs) = omega arith in
-        ap (λ (n : ℕ). getD (b ∷ bs) n 0) f ∙ feed-at bs (omega arith) ]
+          let t : in-line b ≡ true = grind (arith, tells) in
+          let e : leading in-line (b ∷ bs) ≡ 1 + leading in-line bs = ap (λ (x : Bool). cond {A = ℕ} x (1 + leading in-line bs) 0) t in
+          let f : leading in-line (b ∷ bs) ≡ suc (leading in-line bs) = omega arith in
+          ap (λ (n : ℕ). getD (b ∷ bs) n 0) f ∙ feed-at bs (omega arith)
+    ]
 
 -- the first line, its line feed, and the rest
 line-split : (bs : List ℕ) → ended bs ≡ true → bs ≡ first-line bs ++ 10 ∷ after-line bs

@@ -3,11 +3,11 @@ use mathlib.Core.Path.{_≡_, refl, sym, ap, subst, _∙_}
 use mathlib.Core.Bool.{Bool, true, false, cond, _&&_}
 use mathlib.Core.List.{List, [], _∷_, _++_, append-assoc}
 use mathlib.Core.Logic.{_↔_}
-use Prim.Native.Nat.{ℕ, zero, suc, _+_, _-_, _*_, _<_, _≤_}
+use Prim.Native.Nat.{ℕ, zero, suc, _+_, _≤_}
 use native.Mathlib.Omega.{arith}
 use lib.Dec.{eqb}
 use lib.Chars.{codes}
-use lib.ListN.{length, take, drop, getD, length-append}
+use lib.ListN.{length, take, drop, length-append}
 use Rattle.std.specs.Joined.{joined}
 use Rattle.std.specs.Options.{isSome}
 use Rattle.std.specs.shelf.Lists.{All}
@@ -23,10 +23,10 @@ use Rattle.formats.specs.Letters.{setting-of, is-pattern}
 use Rattle.formats.specs.Lines.{after-line}
 use Rattle.formats.specs.Sheets.{and-then, of-kind, due, number-at}
 use Rattle.formats.specs.Schedules.{Timed, Sound-step, step-in, next-step, steps-in, next-count, schedule-in}
-use Rattle.formats.specs.Written.{count-columns, count-line, step-columns, step-line, schedule-of}
+use Rattle.formats.specs.Written.{count-columns, step-columns, step-line, schedule-of}
 use Rattle.formats.proofs.Digits.{length-written}
 use Rattle.formats.proofs.Numbers.{and-ok}
-use Rattle.formats.proofs.LineTexts.{Feedless, feedless, feedless-then, written-feedless, line-then, line-after, due-written, Due, due-read, kind-read, and-split, ok-both, number-written, Number, number-read, field-first, field-past, one-field-split}
+use Rattle.formats.proofs.LineTexts.{Feedless, feedless, feedless-then, written-feedless, line-then, line-after, due-written, due-read, kind-read, and-split, ok-both, number-written, number-read, field-first, field-past, one-field-split}
 
 -- the line with the number of steps
 module _ (n : ℕ) where
@@ -74,7 +74,7 @@ module _ (s : Timed) where
     unfolding step-columns
     step-feedless =
         feedless-then (codes "STEP") (written 5 (s .minutes) ++ s .letters) (feedless (codes "STEP") refl)
-            (feedless-then (written 5 (s .minutes)) (s .letters) (written-feedless 5 (s .minutes)) (pattern-feedless (s .letters) (sound .patterned)))
+        (feedless-then (written 5 (s .minutes)) (s .letters) (written-feedless 5 (s .minutes)) (pattern-feedless (s .letters) (sound .patterned)))
 
     step-written : step-in i (step-columns s) ≡ Ok s
     unfolding step-columns
@@ -161,7 +161,8 @@ steps-read (suc k) pipes i bs ss qs rest e =
       all = r .all ∙ append-assoc ss (p ∷ []) (r .new);
       counted = ap suc (r .counted);
       is = d .is ∙ (λ x. c .0 x ++ 10 ∷ r .is x) ∙ sym (line-then (step-columns p) (joined step-line (r .new)) rest);
-      sound = (c .1, r .sound) }
+      sound = (c .1, r .sound);
+    }
 
 count-read : (i : ℕ) (l : List ℕ) (n : ℕ) → length l ≡ 9 → of-kind (codes "SCHD") l ≡ true → number-at i 0 1 100 l ≡ Ok n → (l ≡ count-columns n) × (1 ≤ n) × (n ≤ 100)
 unfolding count-columns
@@ -213,13 +214,14 @@ module _ (pipes : ℕ) where
   none-left i bs h (Err d) e = (d, e)
 
   refused : (i : ℕ) (bs : List ℕ) → ((e : Refusal) × (schedule-in pipes i bs ≡ Err e)) ↔ ((ss : List Timed) → Sound-schedule pipes ss → bs ≡ schedule-of ss → ⊥)
-  refused i bs =
-      ((λ p ss a e.
-      let r : schedule-in pipes i bs ≡ Ok ss = ap (schedule-in pipes i) e ∙ schedule-written pipes i ss a in
-      let q = p .1 in
-      let z : _≡_ {A = ℕ} 0 1 = cc in
-      absurd (omega arith)),
-      (λ h. none-left i bs h (schedule-in pipes i bs) refl))
+  refused i bs = (
+    (λ p ss a e.
+        let r : schedule-in pipes i bs ≡ Ok ss = ap (schedule-in pipes i) e ∙ schedule-written pipes i ss a in
+        let q = p .1 in
+        let z : _≡_ {A = ℕ} 0 1 = cc in
+        absurd (omega arith)),
+    (λ h. none-left i bs h (schedule-in pipes i bs) refl),
+  )
 
   one : (ss ts : List Timed) → Sound-schedule pipes ss → Sound-schedule pipes ts → schedule-of ss ≡ schedule-of ts → ss ≡ ts
   one ss ts a b e =

@@ -2,15 +2,14 @@
 use mathlib.Core.Path.{_≡_, refl, sym, ap, subst, _∙_}
 use mathlib.Core.Bool.{Bool, true, false, cond, _&&_}
 use mathlib.Core.List.{List, [], _∷_, _++_, append-assoc}
-use mathlib.Core.Logic.{_⊎_, inl, inr, _≢_}
-use Prim.Native.Nat.{ℕ, zero, suc, _+_, _-_, _*_, _<_, _≤_}
+use mathlib.Core.Logic.{inl, inr, _≢_}
+use Prim.Native.Nat.{ℕ, zero, suc, _+_, _-_, _≤_}
 use native.Mathlib.Omega.{arith}
-use lib.Dec.{eqb, leb, ltb}
+use lib.Dec.{eqb}
 use lib.Chars.{codes}
 use lib.ListN.{length, take, drop, getD, length-append}
 use Rattle.std.specs.Joined.{joined}
 use Rattle.std.specs.shelf.Lists.{All}
-use Rattle.std.specs.declared.option.Option.{Option}
 use Rattle.std.specs.declared.option.Option.the-variants.{Some, None}
 use Rattle.std.specs.declared.result.Result.{Result}
 use Rattle.std.specs.declared.result.Result.the-variants.{Ok, Err}
@@ -25,11 +24,11 @@ use Rattle.formats.specs.declared.header.Header.{Header}
 use Rattle.formats.specs.Fields.{written}
 use Rattle.formats.specs.Letters.{valve-of}
 use Rattle.formats.specs.Lines.{after-line}
-use Rattle.formats.specs.Sheets.{and-then, of-kind, due, number-at, header, Sound-header, header-in, blank, lettered, valve-at, pipe-in, next-pipe, pipes-in, sheet-in}
-use Rattle.formats.specs.Written.{valve-letter, header-columns, header-line, pipe-columns, pipe-line, sheet-of}
+use Rattle.formats.specs.Sheets.{and-then, of-kind, due, number-at, header, Sound-header, header-in, lettered, valve-at, pipe-in, next-pipe, pipes-in, sheet-in}
+use Rattle.formats.specs.Written.{valve-letter, header-columns, pipe-columns, pipe-line, sheet-of}
 use Rattle.formats.proofs.Digits.{length-written}
 use Rattle.formats.proofs.Numbers.{and-ok}
-use Rattle.formats.proofs.LineTexts.{Feedless, feedless, feedless-then, written-feedless, line-then, line-after, due-written, Due, due-read, kind-read, and-split, ok-both, number-written, Number, number-read, field-first, field-past, fields-split}
+use Rattle.formats.proofs.LineTexts.{Feedless, feedless, feedless-then, written-feedless, line-then, line-after, due-written, due-read, kind-read, and-split, ok-both, number-written, number-read, field-first, field-past, fields-split}
 
 length-four : (a b c d : List ℕ) → length a ≡ 5 → length b ≡ 5 → length c ≡ 5 → length d ≡ 5 → length (a ++ (b ++ (c ++ d))) ≡ 20
 length-four a b c d p q r s = simp length-append (omega arith)
@@ -57,7 +56,7 @@ module _ (w : Network) where
       let c = written 5 (w .pump) in
       let d = written 5 (w .outlet) in
       feedless-then (codes "NETW") (a ++ (b ++ (c ++ d))) (feedless (codes "NETW") refl)
-          (feedless-then a (b ++ (c ++ d)) (written-feedless 5 (w .junctions)) (feedless-then b (c ++ d) (written-feedless 5 (length (w .pipes))) (feedless-then c d (written-feedless 5 (w .pump)) (written-feedless 5 (w .outlet)))))
+      (feedless-then a (b ++ (c ++ d)) (written-feedless 5 (w .junctions)) (feedless-then b (c ++ d) (written-feedless 5 (length (w .pipes))) (feedless-then c d (written-feedless 5 (w .pump)) (written-feedless 5 (w .outlet)))))
 
   module _ (most i : ℕ) (sound : Sound w) (few : w .junctions ≤ most) where
     header-written : header most i (header-columns w) ≡ Ok (fields-of w)
@@ -133,7 +132,7 @@ module _ (p : Pipe) where
       let c = written 5 (p .limit) in
       let d = tail-of (p .valve) in
       feedless-then (codes "PIPE") (a ++ (b ++ (c ++ d))) (feedless (codes "PIPE") refl)
-          (feedless-then a (b ++ (c ++ d)) (written-feedless 5 (p .from)) (feedless-then b (c ++ d) (written-feedless 5 (p .to)) (feedless-then c d (written-feedless 5 (p .limit)) (tail-feedless (p .valve)))))
+      (feedless-then a (b ++ (c ++ d)) (written-feedless 5 (p .from)) (feedless-then b (c ++ d) (written-feedless 5 (p .to)) (feedless-then c d (written-feedless 5 (p .limit)) (tail-feedless (p .valve)))))
 
   module _ (n i : ℕ) (few : n ≤ 64) (joins : Joins n p) (limited : Limited p) where
     pipe-written : pipe-in n i (pipe-columns p) ≡ Ok p
@@ -231,7 +230,9 @@ letter-read i b v e =
       | inl p ↦ subst (λ (x : Valve). b ≡ valve-letter x) (let q : Open ≡ v = let f = ap (λ (t : Bool). lettered i (cond t (Some Open) (cond (eqb b 67) (Some Closed) None))) (p .0) in cc in q) (p .1)
       | inr p ↦ elim (eqb-tells b 67) [
         | inl z ↦ subst (λ (x : Valve). b ≡ valve-letter x) (let q : Closed ≡ v = let f = ap (λ (t : Bool). lettered i (cond t (Some Open) (cond (eqb b 67) (Some Closed) None))) (p .0) in let g = ap (λ (t : Bool). lettered i (cond t (Some Closed) None)) (z .0) in cc in q) (z .1)
-        | inr z ↦ absurd (let q : _≡_ {A = ℕ} 0 1 = let f = ap (λ (t : Bool). lettered i (cond t (Some Open) (cond (eqb b 67) (Some Closed) None))) (p .0) in let g = ap (λ (t : Bool). lettered i (cond t (Some Closed) None)) (z .0) in cc in omega arith) ] ]
+        | inr z ↦ absurd (let q : _≡_ {A = ℕ} 0 1 = let f = ap (λ (t : Bool). lettered i (cond t (Some Open) (cond (eqb b 67) (Some Closed) None))) (p .0) in let g = ap (λ (t : Bool). lettered i (cond t (Some Closed) None)) (z .0) in cc in omega arith)
+      ]
+    ]
 
 filled : (t : Bool) (i : ℕ) (r : Result Valve Refusal) (v : Valve) → cond t r (Err (BadNumber i)) ≡ Ok v → (t ≡ true) × (r ≡ Ok v)
 filled true i r v e = (refl, e)
@@ -303,7 +304,8 @@ pipes-read (suc k) n i bs ps qs rest some e =
       counted = ap suc (r .counted);
       is = d .is ∙ (λ x. c .0 x ++ 10 ∷ r .is x) ∙ sym (line-then (pipe-columns p) (joined pipe-line (r .new)) rest);
       joins = (c .1, r .joins);
-      limited = (c .2, r .limited) }
+      limited = (c .2, r .limited);
+    }
 
 -- read, then written
 pub sheet-read : (most i : ℕ) (bs : List ℕ) (w : Network) (more : List ℕ) → most ≤ 64 → sheet-in most i bs ≡ Ok (w, more) → (bs ≡ sheet-of w ++ more) × Sound w × (w .junctions ≤ most)

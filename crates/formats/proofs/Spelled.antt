@@ -1,12 +1,12 @@
 -- A field that is read as a number is that number as it is written.
 use mathlib.Core.Path.{_≡_, refl, sym, ap, subst, _∙_}
-use mathlib.Core.Bool.{Bool, true, false, cond, _&&_}
+use mathlib.Core.Bool.{Bool, true, false, cond}
 use mathlib.Core.List.{List, [], _∷_, _++_, append-assoc}
-use mathlib.Core.Logic.{_⊎_, inl, inr}
-use Prim.Native.Nat.{ℕ, zero, suc, _+_, _-_, _*_, _/_, _%_, _<_, _≤_}
+use mathlib.Core.Logic.{inl, inr}
+use Prim.Native.Nat.{ℕ, zero, suc, _+_, _-_, _*_, _/_, _%_, _≤_}
 use native.Mathlib.Nat.{mod-lt, div-add-mod'}
 use native.Mathlib.Omega.{arith}
-use lib.Dec.{eqb, leb, ltb}
+use lib.Dec.{eqb, ltb}
 use lib.ListN.{length, length-append}
 use Rattle.std.specs.declared.option.Option.{Option}
 use Rattle.std.specs.declared.option.Option.the-variants.{Some, None}
@@ -88,10 +88,12 @@ rest-spelled (b ∷ bs) pre n p e =
       | inr q ↦ elim (eqb-tells b 48) [
         | inl z ↦ subst (λ (x : ℕ). pre ++ x ∷ bs ≡ written (length (pre ++ x ∷ bs)) n) (sym (z .1)) (zero-alone bs pre n p (subst (λ (x : ℕ). number-in (x ∷ bs) ≡ Some n) (z .1) e))
         | inr z ↦
-          let f : digits-from 0 (b ∷ bs) ≡ Some n =
-          sym (ap (λ (x : Bool). cond x (number-in bs) (cond (eqb b 48) (lone-zero bs) (digits-from 0 (b ∷ bs)))) (q .0) ∙ ap (λ (x : Bool). cond x (lone-zero bs) (digits-from 0 (b ∷ bs))) (z .0)) ∙ e in
-          let s = digits-spelled bs (pre ++ b ∷ []) (next 0 b) n (digit-read b bs pre 0 n p (λ l y. z .1 (omega arith)) f) in
-          subst (λ (l : List ℕ). l ≡ written (length l) n) (regroup pre b bs) (s .0 ∙ nonzero (length ((pre ++ b ∷ []) ++ bs)) n (s .1)) ] ]
+            let f : digits-from 0 (b ∷ bs) ≡ Some n =
+            sym (ap (λ (x : Bool). cond x (number-in bs) (cond (eqb b 48) (lone-zero bs) (digits-from 0 (b ∷ bs)))) (q .0) ∙ ap (λ (x : Bool). cond x (lone-zero bs) (digits-from 0 (b ∷ bs))) (z .0)) ∙ e in
+            let s = digits-spelled bs (pre ++ b ∷ []) (next 0 b) n (digit-read b bs pre 0 n p (λ l y. z .1 (omega arith)) f) in
+            subst (λ (l : List ℕ). l ≡ written (length l) n) (regroup pre b bs) (s .0 ∙ nonzero (length ((pre ++ b ∷ []) ++ bs)) n (s .1))
+      ]
+    ]
 
 pub spelled : (bs : List ℕ) (n : ℕ) → number-in bs ≡ Some n → bs ≡ written (length bs) n
 spelled bs n e = rest-spelled bs [] n refl e
