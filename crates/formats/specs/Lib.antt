@@ -1,4 +1,6 @@
+pub mod Conditions
 pub mod Fields
+pub mod Laws
 pub mod Letters
 pub mod Lines
 pub mod Pages
@@ -7,3 +9,4 @@ pub mod Refusals
 pub mod Schedules
 pub mod Sheets
 pub mod Spaces
+pub mod Written
