@@ -40,7 +40,11 @@ fn main(rt: LibcRuntime) -> Result<(), AnyError> {
     let text = read_text(&rt)?;
     let mut page = vec![in rt.alloc(); 0u8; MOST_PAGE]?;
     let mut engine: ColdEngine<Fewest> = ColdEngine::new();
-    let unused = Label { length: Fewest { pipes: 0, least: 0 }, steps: 0, via: None };
+    let unused = Label {
+        length: Fewest { pipes: 0, least: 0 },
+        steps: 0,
+        via: None,
+    };
     let mut work = [unused; MOST_JUNCTIONS];
     let mut output = rt.stdout();
     match rate(&mut engine, &text, &mut work, &mut page) {

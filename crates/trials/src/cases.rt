@@ -51,6 +51,15 @@ pub fn next_case(text: &[u8], at: usize) -> Option<Case<'_>> {
     }
     let mark = text[at + 1];
     let name = &text[at + 3..body - 1];
-    let cut = if mark == b'-' && end > body { end - 1 } else { end };
-    Some(Case { name, text: &text[body..cut], whole: mark == b'+', end })
+    let cut = if mark == b'-' && end > body {
+        end - 1
+    } else {
+        end
+    };
+    Some(Case {
+        name,
+        text: &text[body..cut],
+        whole: mark == b'+',
+        end,
+    })
 }

@@ -28,7 +28,11 @@ const FAIL_LENGTH: usize = 15;
 // Rates a text by an engine that looks for fewest pipes.
 fn by_fewest(text: &[u8], page: &mut [u8]) -> Result<usize, Refusal> {
     let mut engine: ColdEngine<Fewest> = ColdEngine::new();
-    let unused = Label { length: Fewest { pipes: 0, least: 0 }, steps: 0, via: None };
+    let unused = Label {
+        length: Fewest { pipes: 0, least: 0 },
+        steps: 0,
+        via: None,
+    };
     let mut work = [unused; MOST_JUNCTIONS];
     rate(&mut engine, text, &mut work, page)
 }
@@ -36,7 +40,11 @@ fn by_fewest(text: &[u8], page: &mut [u8]) -> Result<usize, Refusal> {
 // And by one that looks for widest paths.
 fn by_widest(text: &[u8], page: &mut [u8]) -> Result<usize, Refusal> {
     let mut engine: ColdEngine<Widest> = ColdEngine::new();
-    let unused = Label { length: Widest { least: 0 }, steps: 0, via: None };
+    let unused = Label {
+        length: Widest { least: 0 },
+        steps: 0,
+        via: None,
+    };
     let mut work = [unused; MOST_JUNCTIONS];
     rate(&mut engine, text, &mut work, page)
 }
