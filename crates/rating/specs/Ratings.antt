@@ -30,7 +30,7 @@ text-in most text = and-then (sheet-in most 1 text) (λ r. schedule-for (r .0) (
 unfoldable pub in-space : ℕ → Network × List Timed → Result (Network × List Timed) Refusal
 in-space space r = cond (ltb space (page-length (length (r .1)) (r .0 .junctions) (size (r .0)))) (Err LittleSpace) (Ok r)
 
--- Working places come first, the text then, the space last.
+-- The workspace comes first, the text then, the space last.
 unfoldable pub rating : ℕ → ℕ → List ℕ → ℕ → Result (Network × List Timed) Refusal
 rating most places text space = with-places most places (and-then (text-in most text) (in-space space))
 

@@ -40,7 +40,7 @@ fn case_end(text: &[u8], at: usize) -> usize
 }
 
 // The case that begins at `at`.
-pub fn next_case(text: &[u8], at: usize) -> Option<Case<'_>> {
+pub(crate) fn next_case(text: &[u8], at: usize) -> Option<Case<'_>> {
     if at >= text.len() {
         return None;
     }
