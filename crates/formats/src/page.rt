@@ -8,6 +8,17 @@ use crate::refusal::Refusal;
 use network::report::Report;
 use network::sets::holds;
 
+// Where columns end: the kind word, the number behind it, and the value, total or line number behind that.
+pub const KIND_END: usize = 4;
+
+pub const NUMBER_END: usize = 9;
+
+const VALUE_END: usize = 18;
+
+const TOTAL_END: usize = 18;
+
+const FAIL_END: usize = 14;
+
 // Writes bytes from `at` on.
 pub fn put_bytes(space: &mut [u8], at: usize, bytes: &[u8])
     requires { ⌜ at + length (now bytes) ≤ length (now space) ⌝ }
@@ -54,10 +65,15 @@ pub fn put_rate(space: &mut [u8], at: usize, step: usize, report: &Report, junct
     ensures { λ _. ⌜ now (space .exit) ≡ put-at at (rate-line step (now (report .entry)) junctions) (now (space .entry)) ⌝ }
 {
     put_bytes(space, at, b"RATE");
-    put_number(space, at + 4, at + 9, step as u64);
-    put_number(space, at + 9, at + 18, report.value as u64);
-    put_sides(space, at + 18, report, junctions);
-    put_bytes(space, at + 18 + junctions, b"\n");
+    put_number(space, at + KIND_END, at + NUMBER_END, step as u64);
+    put_number(
+        space,
+        at + NUMBER_END,
+        at + VALUE_END,
+        report.value as u64,
+    );
+    put_sides(space, at + VALUE_END, report, junctions);
+    put_bytes(space, at + VALUE_END + junctions, b"\n");
 }
 
 // The TOTL line.
@@ -66,8 +82,8 @@ pub fn put_total(space: &mut [u8], at: usize, total: u64)
     ensures { λ _. ⌜ now (space .exit) ≡ put-at at (total-line total) (now (space .entry)) ⌝ }
 {
     put_bytes(space, at, b"TOTL");
-    put_number(space, at + 4, at + 18, total);
-    put_bytes(space, at + 18, b"\n");
+    put_number(space, at + KIND_END, at + TOTAL_END, total);
+    put_bytes(space, at + TOTAL_END, b"\n");
 }
 
 // The FAIL line of a refusal.
@@ -76,7 +92,7 @@ pub fn put_fail(space: &mut [u8], refusal: &Refusal)
     ensures { λ _. ⌜ now (space .exit) ≡ put-at 0 (fail-line (now (refusal .entry))) (now (space .entry)) ⌝ }
 {
     put_bytes(space, 0, b"FAIL");
-    put_number(space, 4, 9, refusal.number() as u64);
-    put_number(space, 9, 14, refusal.line() as u64);
-    put_bytes(space, 14, b"\n");
+    put_number(space, KIND_END, NUMBER_END, refusal.number() as u64);
+    put_number(space, NUMBER_END, FAIL_END, refusal.line() as u64);
+    put_bytes(space, FAIL_END, b"\n");
 }

@@ -18,6 +18,8 @@ ghost use Rattle.rating.specs.Ratings.{rating};
 use crate::extent::Extent;
 use crate::text::read_text;
 use formats::fields::put_number;
+use formats::page::KIND_END;
+use formats::page::NUMBER_END;
 use formats::page::letter_of_mark;
 use formats::page::put_bytes;
 use formats::page::put_rate;
@@ -84,9 +86,9 @@ fn put_governing<E: Engine>(
     ensures { λ _. ⌜ now (space .exit) ≡ put-at at (governing-line step (governing-row (E·Engine .meaning (now (engine .entry))) pipes)) (now (space .entry)) ⌝ }
 {
     put_bytes(space, at, b"GOVN");
-    put_number(space, at + 4, at + 9, step as u64);
-    put_marks(space, at + 9, engine, work, pipes);
-    put_bytes(space, at + 9 + pipes, b"\n");
+    put_number(space, at + KIND_END, at + NUMBER_END, step as u64);
+    put_marks(space, at + NUMBER_END, engine, work, pipes);
+    put_bytes(space, at + NUMBER_END + pipes, b"\n");
 }
 
 // Sets the valves for a step and writes its two lines. The answer is the value.
