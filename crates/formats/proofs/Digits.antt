@@ -1,17 +1,17 @@
 -- Numbers in fields: what a step reads or writes, and that what is written is read back.
-use mathlib.Core.Path.{_≡_, refl, sym, ap, subst, _∙_}
-use mathlib.Core.Bool.{Bool, true, false, cond, _&&_}
+use mathlib.Core.Path.{_≡_, refl, sym, ap, _∙_}
+use mathlib.Core.Bool.{Bool, true, false, cond}
 use mathlib.Core.List.{List, [], _∷_, _++_, append-assoc}
-use mathlib.Core.Logic.{_⊎_, ⊎-elim}
+use mathlib.Core.Logic.{_⊎_}
 use Prim.Native.Nat.{ℕ, zero, suc, _+_, _-_, _*_, _/_, _%_, _^_, _<_, _≤_}
 use native.Mathlib.Nat.{mod-lt, div-add-mod', div-lt-iff-lt-mul, pow-suc}
 use native.Mathlib.Omega.{arith}
-use lib.Dec.{eqb, leb, ltb}
+use lib.Dec.{eqb, ltb}
 use lib.ListN.{length, take, drop, getD, set, length-append}
 use Rattle.std.specs.declared.option.Option.{Option}
 use Rattle.std.specs.declared.option.Option.the-variants.{Some, None}
 use Rattle.std.proofs.shelf.Ways.{tells}
-use Rattle.std.proofs.shelf.Lists.{at-drop-more, at-drop-all, drop-set, take-set, take-take, take-set-le, take-append-drop, take-at, drop-at, length-take-le, nil-from-length, drop-all}
+use Rattle.std.proofs.shelf.Lists.{at-drop-more, at-drop-all, drop-set, take-set, take-take, take-set-le, take-append-drop, take-at, drop-at, length-take-le}
 use Rattle.formats.specs.Fields.{digit, digits-from, lone-zero, number-in, digit-or-blank, padded, written}
 
 is-digit : (b : ℕ) → 48 ≤ b → b ≤ 57 → digit b ≡ true

@@ -1,5 +1,5 @@
 -- A reader that moves on, line by line.
-use mathlib.Core.Path.{_≡_, refl, sym, ap, _∙_}
+use mathlib.Core.Path.{refl, _∙_}
 use Prim.Native.Nat.{ℕ, _+_}
 use native.Mathlib.Omega.{arith}
 use Rattle.formats.specs.declared.reader.Reader.{Reader}

@@ -1,11 +1,11 @@
 -- Writing over a space, piece by piece.
-use mathlib.Core.Path.{_≡_, refl, sym, ap, _∙_}
+use mathlib.Core.Path.{_≡_, sym, ap, _∙_}
 use mathlib.Core.List.{List, [], _∷_, _++_, append-assoc}
 use Prim.Native.Nat.{ℕ, _+_, _-_, _≤_, _<_}
 use native.Mathlib.Omega.{arith}
 use borrow.Rule.Slice.PartMut.{putMid}
 use lib.ListN.{length, take, drop, set, getD, length-append}
-use Rattle.std.proofs.shelf.Lists.{take-at, drop-at, take-append-drop, length-take-le, drop-drop, drop-more, append-nil, set-append-right}
+use Rattle.std.proofs.shelf.Lists.{take-at, drop-at, take-append-drop, length-take-le, drop-drop, drop-more, set-append-right}
 use Rattle.formats.specs.Fields.{written}
 use Rattle.formats.specs.Spaces.{put-at}
 use Rattle.formats.proofs.Digits.{length-written}

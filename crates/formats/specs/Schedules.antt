@@ -1,13 +1,12 @@
 -- What a schedule says, or the first condition that it misses, in the order of lines and fields that sheets have.
 use mathlib.Core.Path.{_≡_}
-use mathlib.Core.Bool.{Bool, true, cond}
-use mathlib.Core.List.{List, [], _∷_, _++_, map}
-use Prim.Native.Nat.{ℕ, zero, suc, _+_, _≤_, _<_}
+use mathlib.Core.Bool.{true, cond}
+use mathlib.Core.List.{List, [], _∷_, _++_}
+use Prim.Native.Nat.{ℕ, zero, suc, _+_, _≤_}
 use denote.Ref.{now}
 use lib.Dec.{eqb}
 use lib.Chars.{codes}
-use lib.ListN.{length, getD, take, drop}
-use Rattle.std.specs.shelf.Lists.{All}
+use lib.ListN.{length, drop}
 use Rattle.std.specs.declared.result.Result.{Result}
 use Rattle.std.specs.declared.result.Result.the-variants.{Ok, Err}
 use Rattle.formats.specs.declared.refusal.Refusal.{Refusal}

@@ -3,9 +3,8 @@ use mathlib.Core.Path.{_≡_, sym, ap, ap₂, subst, _∙_}
 use mathlib.Core.List.{List}
 use Prim.Native.Nat.{ℕ, _-_, _≤_, _<_}
 use native.Mathlib.Omega.{arith}
-use lib.ListN.{length, getD, take, length-map, length-take}
-use lib.Seq.{getD-take}
-use Rattle.std.proofs.shelf.Lists.{getD-default, getD-map}
+use lib.ListN.{getD}
+use Rattle.std.proofs.shelf.Lists.{getD-default}
 use Rattle.network.specs.declared.valve.Valve.{Valve}
 use Rattle.network.specs.declared.valve.Valve.the-variants.{Open, Closed}
 use Rattle.network.specs.declared.row.Row.{Row}
@@ -16,9 +15,10 @@ use Rattle.network.specs.declared.table.Table.{Table}
 use Rattle.network.specs.Valves.{room}
 use Rattle.network.specs.Rows.{no-row, Sound-flow, Joined, Limited}
 use Rattle.network.specs.Pipes.{pipe-of, network-of, flow-of}
-use Rattle.network.specs.Residual.{start-by, end-by, weight-by, nowhere, pipe, size, carried, tail, head, weight}
+use Rattle.network.specs.Residual.{start-by, end-by, weight-by, pipe, size, carried, tail, head, weight}
 use Rattle.paths.specs.declared.label.Label.{Label}
 use Rattle.paths.specs.Searches.{Done}
+use Rattle.network.proofs.TableFacts.{table-size, table-pipe, table-carried}
 use Rattle.paths.proofs.Walks.{Sound}
 
 -- what code reads past the end
@@ -49,21 +49,14 @@ module _ (t : Table) where
   pub ends-read : (d : Direction) (k : ℕ) → k < t .count → (start-by d (pipe-of (getD (t .rows) k read-row)) < t .junctions) × (end-by d (pipe-of (getD (t .rows) k read-row)) < t .junctions) × (start-by d (pipe-of (getD (t .rows) k read-row)) ≡ end-by d (pipe-of (getD (t .rows) k read-row)) → ⊥)
   ends-read d k h = ends-by d (t .junctions) (getD (t .rows) k read-row) (subst (λ (r : Row). Joined (t .junctions) r) (sym (row-read k h)) (t .joined k h))
 
-  count-rows : length (take (t .count) (t .rows)) ≡ t .count
-  count-rows = let a = t .long in let b = t .held in simp length-take (omega arith)
-
   pub size-is : size (network-of t) ≡ t .count
-  size-is = length-map (take (t .count) (t .rows)) pipe-of ∙ count-rows
+  size-is = table-size t
 
   pub pipe-is : (k : ℕ) → k < t .count → pipe (network-of t) k ≡ pipe-of (getD (t .rows) k read-row)
-  pipe-is k h =
-      getD-map pipe-of (take (t .count) (t .rows)) k read-row nowhere (let e = count-rows in omega arith)
-      ∙ ap pipe-of (getD-take (t .count) (t .rows) k read-row h)
+  pipe-is k h = table-pipe t k h ∙ ap pipe-of (sym (row-read k h))
 
   pub carried-is : (k : ℕ) → k < t .count → carried (flow-of t) k ≡ getD (t .rows) k read-row .flow
-  carried-is k h =
-      getD-map (λ (r : Row). r .flow) (take (t .count) (t .rows)) k read-row 0 (let e = count-rows in omega arith)
-      ∙ ap (λ (r : Row). r .flow) (getD-take (t .count) (t .rows) k read-row h)
+  carried-is k h = table-carried t k h ∙ ap (λ (r : Row). r .flow) (sym (row-read k h))
 
   module _ (s : Step) (h : s .pipe < t .count) where
     tail-is : start-by (s .direction) (pipe-of (getD (t .rows) (s .pipe) read-row)) ≡ tail (network-of t) s

@@ -1,5 +1,4 @@
 use mathlib.Core.Path.{sym, _∙_}
-use native.Mathlib.Omega.{arith}
 use Prim.Native.Nat.{_+_}
 use lib.ListN.{getD, drop}
 use Rattle.formats.proofs.Digits.{bad, good, big, digits-at, digits-end}

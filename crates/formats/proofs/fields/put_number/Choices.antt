@@ -2,7 +2,7 @@ use mathlib.Core.Path.{_≡_}
 use mathlib.Core.List.{_++_}
 use Prim.Native.Nat.{_-_, _≤_, _<_}
 use lib.ListN.{length, take, drop}
-use Rattle.formats.specs.Fields.{padded, written}
+use Rattle.formats.specs.Fields.{padded}
 use Rattle.formats.proofs.fields.put_number.Given as given
 
 -- the loop's own entry has one digit written already, so the parameters' first space is named by what was true there

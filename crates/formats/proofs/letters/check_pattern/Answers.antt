@@ -1,5 +1,5 @@
 use mathlib.Core.Path.{_≡_, sym, ap, _∙_}
-use mathlib.Core.Bool.{Bool, true, false}
+use mathlib.Core.Bool.{true, false}
 use lib.ListN.{getD}
 use Rattle.std.specs.Options.{isSome}
 use Rattle.formats.specs.Letters.{setting-of, is-pattern}
