@@ -1,4 +1,3 @@
-ghost use mathlib.Core.Path.{_≡_};
 ghost use lib.ListN.{length};
 ghost use Rattle.firmware.specs.Entry.{Rated};
 use engines::cold::ColdEngine;

@@ -1,13 +1,13 @@
 ghost use mathlib.Core.Path.{_≡_};
 ghost use mathlib.Core.List.{[], map};
-ghost use Prim.Native.Nat.{ℕ, _+_, _*_, _-_, _<_, _≤_};
-ghost use lib.ListN.{length, getD, take, drop};
+ghost use Prim.Native.Nat.{_+_, _*_, _-_, _<_, _≤_};
+ghost use lib.ListN.{length, take};
 ghost use Rattle.std.specs.declared.result.Result.the-variants.{Ok, Err};
 ghost use Rattle.std.specs.Vec.{made};
 ghost use Rattle.network.specs.Rows.{Each, Joined, Limited, Dry};
 ghost use Rattle.network.specs.Pipes.{pipe-of, network-of};
 ghost use Rattle.formats.specs.Readers.{rest, Advanced, Went};
-ghost use Rattle.formats.specs.Sheets.{of-kind, due, ranged, number-at, header, valve-at, pipe-in, header-in, next-pipe, pipes-in, sheet-in, Sound-header, Dry-rows};
+ghost use Rattle.formats.specs.Sheets.{of-kind, due, number-at, header, valve-at, pipe-in, header-in, next-pipe, pipes-in, sheet-in, Sound-header, Dry-rows};
 use crate::fields::BLANK;
 use crate::fields::read_number;
 use crate::header::Header;

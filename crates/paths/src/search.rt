@@ -1,5 +1,5 @@
 ghost use mathlib.Core.Path.{_≡_};
-ghost use Prim.Native.Nat.{ℕ, suc, _<_, _≤_};
+ghost use Prim.Native.Nat.{suc, _<_, _≤_};
 ghost use lib.ListN.{length, drop};
 ghost use Rattle.network.specs.Pipes.{network-of, flow-of};
 ghost use Rattle.paths.specs.Metrics.{InRange};
