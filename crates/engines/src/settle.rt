@@ -1,11 +1,12 @@
 ghost use mathlib.Core.Path.{_≡_};
-ghost use Prim.Native.Nat.{ℕ, _+_, _≤_, _<_};
+ghost use Prim.Native.Nat.{_+_, _≤_, _<_};
 ghost use lib.ListN.{length};
-ghost use Rattle.network.specs.Flows.{Flow, dry, outflow, inflow};
+ghost use Rattle.network.specs.Changes.{with-pipe, with-limit, with-valve};
+ghost use Rattle.network.specs.Flows.{dry, outflow, inflow};
 ghost use Rattle.network.specs.Pipes.{network-of, flow-of, pipe-of};
 ghost use Rattle.network.specs.Reports.{report-of};
-ghost use Rattle.network.specs.Residual.{size};
-ghost use Rattle.network.specs.Rows.{Joined, Limited, Dry};
+ghost use Rattle.network.specs.Residual.{pipe};
+ghost use Rattle.network.specs.Rows.{Dry};
 ghost use Rattle.formats.specs.Letters.{setting-of};
 ghost use Rattle.engines.specs.Augmentations.{Fills};
 ghost use Rattle.engines.specs.Balances.{Balanced};
@@ -16,6 +17,7 @@ use formats::letters::read_setting;
 use network::report::Report;
 use network::row::Row;
 use network::table::Table;
+use network::valve::Valve;
 use paths::label::Label;
 use paths::metric::PathMetric;
 
@@ -33,29 +35,30 @@ pub fn settle<M: PathMetric>(table: &mut Table, labels: &mut [Label<M>]) -> (Rep
     (survey::report(table), count)
 }
 
+// A row with this limit and this valve, and dry.
+fn dry_row(row: &Row, limit: u32, valve: Valve) -> Row
+    ensures pipe { λ r. ⌜ pipe-of r ≡ with-valve (with-limit (pipe-of (now (row .entry))) limit) valve ⌝ }
+    ensures dry { λ r. ⌜ Dry r ⌝ }
+{
+    Row {
+        from: row.from,
+        to: row.to,
+        limit,
+        flow: 0,
+        valve,
+    }
+}
+
 // A row with its valve set by a letter, and dry.
 fn set_row(row: &Row, letter: u8) -> Row
     ensures pipe { λ r. ⌜ pipe-of r ≡ set-by (setting-of letter) (pipe-of (now (row .entry))) ⌝ }
     ensures dry { λ r. ⌜ Dry r ⌝ }
 {
-    let Row {
-        from,
-        to,
-        limit,
-        valve,
-        ..
-    } = *row;
     let valve = match read_setting(letter) {
-        Some(setting) => setting.apply(valve),
-        None => valve,
+        Some(setting) => setting.apply(row.valve),
+        None => row.valve,
     };
-    Row {
-        from,
-        to,
-        limit,
-        flow: 0,
-        valve,
-    }
+    dry_row(row, row.limit, valve)
 }
 
 // The table with its valves set by a letter for each pipe, and dry.
@@ -68,6 +71,29 @@ pub fn with_pattern(table: &Table, letters: &[u8]) -> Table
     for k in 0..table.count {
         rows[k] = set_row(&table.rows[k], letters[k]);
     }
+    Table {
+        junctions: table.junctions,
+        pump: table.pump,
+        outlet: table.outlet,
+        rows,
+        count: table.count,
+    }
+}
+
+// The table with another limit and valve on pipe k, and dry.
+pub fn with_row(table: &Table, k: usize, limit: u32, valve: Valve) -> Table
+    requires inside { ⌜ k < now table .count ⌝ }
+    requires some { ⌜ 1 ≤ limit ⌝ }
+    requires few { ⌜ limit ≤ 60000 ⌝ }
+    ensures network { λ r. ⌜ network-of r ≡ with-pipe (network-of (now (table .entry))) k (with-valve (with-limit (pipe (network-of (now (table .entry))) k) limit) valve) ⌝ }
+    ensures dry { λ r. ⌜ flow-of r ≡ dry (network-of r) ⌝ }
+{
+    let mut rows = table.rows;
+    for i in 0..table.count {
+        let row = table.rows[i];
+        rows[i] = dry_row(&row, row.limit, row.valve);
+    }
+    rows[k] = dry_row(&table.rows[k], limit, valve);
     Table {
         junctions: table.junctions,
         pump: table.pump,

@@ -1,7 +1,7 @@
 -- The number of each refusal, and the line that it names, or 0.
 use Prim.Native.Nat.{ℕ}
 use Rattle.formats.specs.declared.refusal.Refusal.{Refusal}
-use Rattle.formats.specs.declared.refusal.Refusal.the-variants.{BadLine, WrongKind, BadNumber, OutOfRange, WrongLetter, SameEnds, TrailingBytes, NoSuchPipe, FewPlaces, LittleSpace}
+use Rattle.formats.specs.declared.refusal.Refusal.the-variants.{BadLine, WrongKind, BadNumber, OutOfRange, WrongLetter, SameEnds, TrailingBytes, NoSuchPipe, FewPlaces, LittleSpace, AlreadyOpen, AlreadyClosed}
 
 abbrev pub number : Refusal → ℕ
 number (BadLine n) = 1
@@ -14,6 +14,8 @@ number (TrailingBytes n) = 7
 number NoSuchPipe = 8
 number FewPlaces = 9
 number LittleSpace = 9
+number AlreadyOpen = 11
+number AlreadyClosed = 12
 
 abbrev pub line : Refusal → ℕ
 line (BadLine n) = n
@@ -26,3 +28,5 @@ line (TrailingBytes n) = n
 line NoSuchPipe = 0
 line FewPlaces = 0
 line LittleSpace = 0
+line AlreadyOpen = 0
+line AlreadyClosed = 0

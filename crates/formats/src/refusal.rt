@@ -21,4 +21,8 @@ pub enum Refusal {
     FewPlaces,
     // The answer does not fit into the space that was handed over.
     LittleSpace,
+    // The valve to be opened is open.
+    AlreadyOpen,
+    // The valve to be closed is closed.
+    AlreadyClosed,
 }

@@ -17,6 +17,8 @@ impl Refusal {
             Refusal::TrailingBytes(_) => 7,
             Refusal::NoSuchPipe => 8,
             Refusal::FewPlaces | Refusal::LittleSpace => 9,
+            Refusal::AlreadyOpen => 11,
+            Refusal::AlreadyClosed => 12,
         }
     }
 
@@ -32,7 +34,11 @@ impl Refusal {
             | Refusal::WrongLetter(line)
             | Refusal::SameEnds(line)
             | Refusal::TrailingBytes(line) => *line,
-            Refusal::NoSuchPipe | Refusal::FewPlaces | Refusal::LittleSpace => 0,
+            Refusal::NoSuchPipe
+            | Refusal::FewPlaces
+            | Refusal::LittleSpace
+            | Refusal::AlreadyOpen
+            | Refusal::AlreadyClosed => 0,
         }
     }
 }

@@ -9,7 +9,7 @@ ghost use Rattle.network.specs.Flows.{Greatest};
 ghost use Rattle.network.specs.Network.{Network, Sound, bare};
 ghost use Rattle.network.specs.Reaches.{Reached, Apart};
 ghost use Rattle.network.specs.Reports.{report-of};
-ghost use Rattle.interface.specs.Verdicts.{loading, patterning, reporting, asking, change};
+ghost use Rattle.interface.specs.Verdicts.{loading, opening, closing, limiting, patterning, reporting, asking, change};
 use formats::refusal::Refusal;
 use network::report::Report;
 
@@ -48,7 +48,39 @@ pub trait Engine {
           | Err e ↦ (loading most (length (now (work .entry))) (now (text .entry)) ≡ Err e) × (now (self .exit) ≡ now (self .entry)) × (now (work .exit) ≡ now (work .entry))
         ] ⌝ };
 
-    // All valves are set by a letter for each pipe. The answer is the change of the greatest value, and the number of augmentations.
+    // The valve of a closed pipe opens. The answer is the change of the greatest value, and the number of augmentations.
+    fn open(&mut self, pipe: usize, work: &mut [Self::Place]) -> Result<(i64, u32), Refusal>
+        ensures { λ r. ⌜ elim r [
+          | Ok d ↦ (opening most (length (now (work .entry))) (meaning (now (self .entry))) pipe ≡ Ok (meaning (now (self .exit))))
+              × (d .0 ≡ change (meaning (now (self .entry))) (meaning (now (self .exit))))
+              × counted (now (self .entry)) (now (self .exit)) (d .1)
+          | Err e ↦ (opening most (length (now (work .entry))) (meaning (now (self .entry))) pipe ≡ Err e) × (now (self .exit) ≡ now (self .entry)) × (now (work .exit) ≡ now (work .entry))
+        ] ⌝ };
+
+    // The valve of an open pipe closes. The answer is as for opening.
+    fn close(&mut self, pipe: usize, work: &mut [Self::Place]) -> Result<(i64, u32), Refusal>
+        ensures { λ r. ⌜ elim r [
+          | Ok d ↦ (closing most (length (now (work .entry))) (meaning (now (self .entry))) pipe ≡ Ok (meaning (now (self .exit))))
+              × (d .0 ≡ change (meaning (now (self .entry))) (meaning (now (self .exit))))
+              × counted (now (self .entry)) (now (self .exit)) (d .1)
+          | Err e ↦ (closing most (length (now (work .entry))) (meaning (now (self .entry))) pipe ≡ Err e) × (now (self .exit) ≡ now (self .entry)) × (now (work .exit) ≡ now (work .entry))
+        ] ⌝ };
+
+    // A pipe, open or closed, gets another limit, which may be the one it had. The answer is as for opening.
+    fn limit(
+        &mut self,
+        pipe: usize,
+        limit: u32,
+        work: &mut [Self::Place],
+    ) -> Result<(i64, u32), Refusal>
+        ensures { λ r. ⌜ elim r [
+          | Ok d ↦ (limiting most (length (now (work .entry))) (meaning (now (self .entry))) pipe limit ≡ Ok (meaning (now (self .exit))))
+              × (d .0 ≡ change (meaning (now (self .entry))) (meaning (now (self .exit))))
+              × counted (now (self .entry)) (now (self .exit)) (d .1)
+          | Err e ↦ (limiting most (length (now (work .entry))) (meaning (now (self .entry))) pipe limit ≡ Err e) × (now (self .exit) ≡ now (self .entry)) × (now (work .exit) ≡ now (work .entry))
+        ] ⌝ };
+
+    // All valves are set by a letter for each pipe. The answer is as for opening.
     fn pattern(&mut self, letters: &[u8], work: &mut [Self::Place]) -> Result<(i64, u32), Refusal>
         ensures { λ r. ⌜ elim r [
           | Ok d ↦ (patterning most (length (now (work .entry))) (meaning (now (self .entry))) (now (letters .entry)) ≡ Ok (meaning (now (self .exit))))

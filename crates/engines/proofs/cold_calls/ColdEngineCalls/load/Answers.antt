@@ -1,6 +1,6 @@
 use mathlib.Core.Path.{_≡_, refl, sym, ap, _∙_}
 use mathlib.Core.List.{List}
-use Prim.Native.Nat.{ℕ, _≤_}
+use Prim.Native.Nat.{ℕ}
 use native.Mathlib.Omega.{arith}
 use lib.ListN.{length, drop}
 use Rattle.std.specs.declared.result.Result.the-variants.{Ok}
@@ -12,8 +12,8 @@ use Rattle.engines.proofs.Calling.{load-missed, load-done}
 use Rattle.engines.proofs.Reading.{fresh, dry-table}
 use Rattle.engines.proofs.cold_calls.ColdEngineCalls.load.Needs as need
 
-pub settle-requires : need.settle-requires
-settle-requires g c κs =
+pub restart-requires : need.restart-requires
+restart-requires g c κs =
     let got = c .in-Continue-table .ensures tt in
     record {
       places = omega (arith, got .1, c .if-work-lt-MOST-JUNCTIONS .left);
@@ -36,4 +36,4 @@ returns g c =
     let read : sheet-in 64 1 (c .args .text .now) ≡ Ok (network-of (c .in-Continue-table .table), drop (reader .at) (c .args .text .now)) =
     sym (fresh 64 (c .new-reader .result) text (c .new-reader .ensures)) ∙ got .0 ∙ ap (λ (bs : List ℕ). Ok (network-of (c .in-Continue-table .table), drop (reader .at) bs)) same in
     load-done 64 _ (c .if-work-lt-MOST-JUNCTIONS .left) text (network-of (c .in-Continue-table .table)) (reader .at) (omega (arith, reader .within, ap length same)) read
-    ∙ ap (λ (w : Network). Ok (w, reader .at)) (sym (c .settle .ensures .same))
+    ∙ ap (λ (w : Network). Ok (w, reader .at)) (sym (c .restart .ensures .same))

@@ -1,19 +1,13 @@
-use mathlib.Core.Path.{_≡_, refl, sym, ap, subst, _∙_}
-use mathlib.Core.List.{List}
-use Prim.Native.Nat.{ℕ, _^_, _≤_, _<_}
+use mathlib.Core.Path.{_≡_, refl, sym, ap, _∙_}
 use native.Mathlib.Omega.{arith}
 use lib.ListN.{length}
 use Rattle.std.specs.declared.result.Result.the-variants.{Ok}
 use Rattle.std.proofs.shelf.Results.{err-from-errBy}
-use Rattle.network.specs.declared.report.Report.{Report}
-use Rattle.network.specs.Flows.{dry}
 use Rattle.network.specs.Network.{Network}
-use Rattle.network.specs.Pipes.{network-of, flow-of}
-use Rattle.network.specs.Reports.{report-of}
+use Rattle.network.specs.Pipes.{network-of}
 use Rattle.network.specs.Residual.{size}
 use Rattle.network.proofs.TableFacts.{table-size}
-use Rattle.engines.specs.Augmentations.{Fills}
-use Rattle.engines.proofs.Calling.{pattern-short, pattern-missed, pattern-done, signed-change}
+use Rattle.engines.proofs.Calling.{pattern-short, pattern-missed, pattern-done}
 use Rattle.engines.proofs.cold_calls.ColdEngineCalls.pattern.Needs as need
 
 pub returns-then-letters-self : need.returns-then-letters-self
@@ -30,17 +24,10 @@ returns-in-Break-check-pattern g c =
 
 pub returns : need.returns
 returns g c =
-    let m = g .M·PathMetric in
-    let e = c .args .self .now in
-    let t = e .table in
-    let u = c .settle-count .last .table in
+    let t = c .args .self .now .table in
     let bs = c .args .letters .now in
-    let long : length (c .args .letters .now) ≡ size (network-of (c .args .self .now .table)) = omega (arith, table-size t) in
-    let same = c .settle-count .ensures .same in
-    let fits : c .settle-count .result .0 .value < 2 ^ 32 = omega arith in
-    let fits′ : c .args .self .now .report .value < 2 ^ 32 = omega arith in (
-      pattern-done 64 _ (c .if-work-lt-MOST-JUNCTIONS .left) (network-of t) bs long (c .in-Continue-check-pattern .ensures tt) ∙ ap (λ (w : Network). Ok w) (sym (same ∙ c .with-pattern-table .ensures .network)),
-      signed-change (c .settle-count .result .0 .value) (e .report .value) (report-of (network-of u) .value) (report-of (network-of t) .value) fits fits′
-          (ap (λ (r : Report). r .value) (c .settle-count .ensures .report ∙ ap report-of (sym same))) (e .value),
-      subst (λ (w : Network). Fills w (m .good) (m .start) (m .extended) (dry w) (c .settle-count .result .1) (flow-of u)) (sym same) (c .settle-count .ensures .count),
+    let long : length (c .args .letters .now) ≡ size (network-of (c .args .self .now .table)) = omega (arith, table-size t) in (
+      pattern-done 64 _ (c .if-work-lt-MOST-JUNCTIONS .left) (network-of t) bs long (c .in-Continue-check-pattern .ensures tt) ∙ ap (λ (w : Network). Ok w) (sym (c .restart .ensures .same ∙ c .with-pattern-table .ensures .network)),
+      c .restart .ensures .change,
+      c .restart .ensures .count,
     )
