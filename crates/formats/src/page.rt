@@ -66,12 +66,7 @@ pub fn put_rate(space: &mut [u8], at: usize, step: usize, report: &Report, junct
 {
     put_bytes(space, at, b"RATE");
     put_number(space, at + KIND_END, at + NUMBER_END, step as u64);
-    put_number(
-        space,
-        at + NUMBER_END,
-        at + VALUE_END,
-        report.value as u64,
-    );
+    put_number(space, at + NUMBER_END, at + VALUE_END, report.value as u64);
     put_sides(space, at + VALUE_END, report, junctions);
     put_bytes(space, at + VALUE_END + junctions, b"\n");
 }
