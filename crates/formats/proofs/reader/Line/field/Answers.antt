@@ -2,8 +2,8 @@ use Rattle.std.proofs.Common.{arith}
 use Rattle.formats.proofs.Numbers.{unread, outside, inside}
 use Rattle.formats.proofs.reader.Line.field.Goals as goal
 
-pub returns-in-default : goal.returns-in-default
-returns-in-default c = record { is = unread c.args.self.now.bytes.now c.args.k _ c.args.least c.args.most _ (omega arith) c.in-default.ensures; within = tt }
+pub returns-in_default : goal.returns-in_default
+returns-in_default c = record { is = unread c.args.self.now.bytes.now c.args.k _ c.args.least c.args.most _ (omega arith) c.in_default.ensures; within = tt }
 
 pub returns-then-n-most : goal.returns-then-n-most
 returns-then-n-most c =

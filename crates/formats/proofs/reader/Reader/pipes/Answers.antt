@@ -18,11 +18,11 @@ loop-k-init c = (
   went_none c.args.self.now,
 )
 
-pub returns-in-err-row : goal.returns-in-err-row
-returns-in-err-row c =
-    let p = err_from_is_err_and c.from-residual.result c.from-residual.ensures.1 in
+pub returns-in_err-row : goal.returns-in_err-row
+returns-in_err-row c =
+    let p = err_from_is_err_and c.from_residual.result c.from_residual.ensures.1 in
     rw (p.1, p.2)
-    (sym c.loop-k.invariant.0 ∙ pipes_miss c.args.count c.loop-k.k c.args.junctions (c.loop-k.self.lines + 1) (rest c.loop-k.self) (map pipe_of (take c.loop-k.k c.loop-k.rows)) c.loop-k-test.true _ c.in-err-row.ensures)
+    (sym c.loop-k.invariant.0 ∙ pipes_miss c.args.count c.loop-k.k c.args.junctions (c.loop-k.self.lines + 1) (rest c.loop-k.self) (map pipe_of (take c.loop-k.k c.loop-k.rows)) c.loop-k-test.true _ c.in_err-row.ensures)
 
 pub loop-k-preserved : goal.loop-k-preserved
 loop-k-preserved c =
@@ -30,10 +30,10 @@ loop-k-preserved c =
     let n = c.args.junctions in
     let k = c.loop-k.k in
     let rows = c.loop-k.rows in
-    let row = c.in-ok-row.row in
+    let row = c.in_ok-row.row in
     let old = c.loop-k.self in
-    let new = c.next-pipe.new.self in
-    let got = c.in-ok-row.ensures in
+    let new = c.next_pipe.new.self in
+    let got = c.in_ok-row.ensures in
     let inside : c.loop-k.k < length c.loop-k.rows = omega arith in (
       ap (λ (i : ℕ). pipes_in (count - (k + 1)) n (i + 1) (rest new) (map pipe_of (take (k + 1) (set rows k row)))) got.4.counted
           ∙ ap (λ (bs : List ℕ). pipes_in (count - (k + 1)) n (old.lines + 1 + 1) bs (map pipe_of (take (k + 1) (set rows k row)))) got.4.left

@@ -17,11 +17,11 @@ loop-k-init c = (
   refl,
 )
 
-pub returns-in-err-step : goal.returns-in-err-step
-returns-in-err-step c =
-    let p = err_from_is_err_and c.from-residual.result c.from-residual.ensures.1 in
+pub returns-in_err-step : goal.returns-in_err-step
+returns-in_err-step c =
+    let p = err_from_is_err_and c.from_residual.result c.from_residual.ensures.1 in
     rw (p.1, p.2)
-    (sym c.loop-k.invariant.0 ∙ steps_miss c.args.count c.loop-k.k c.args.pipes (c.loop-k.self.lines + 1) (rest c.loop-k.self) (map timed (take c.loop-k.k c.loop-k.steps)) c.loop-k-test.true _ c.in-err-step.ensures)
+    (sym c.loop-k.invariant.0 ∙ steps_miss c.args.count c.loop-k.k c.args.pipes (c.loop-k.self.lines + 1) (rest c.loop-k.self) (map timed (take c.loop-k.k c.loop-k.steps)) c.loop-k-test.true _ c.in_err-step.ensures)
 
 pub loop-k-preserved : goal.loop-k-preserved
 loop-k-preserved c =
@@ -29,10 +29,10 @@ loop-k-preserved c =
     let n = c.args.pipes in
     let k = c.loop-k.k in
     let steps = c.loop-k.steps in
-    let step = c.in-ok-step.step in
+    let step = c.in_ok-step.step in
     let old = c.loop-k.self in
-    let new = c.next-step.new.self in
-    let got = c.in-ok-step.ensures in
+    let new = c.next_step.new.self in
+    let got = c.in_ok-step.ensures in
     let inside : c.loop-k.k < length c.loop-k.steps = omega arith in
     let more = step_more steps k step inside in (
       ap (λ (i : ℕ). steps_in (count - (k + 1)) n (i + 1) (rest new) (map timed (take (k + 1) (set steps k step)))) got.2.counted
