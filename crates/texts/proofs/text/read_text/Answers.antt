@@ -9,26 +9,26 @@ use Rattle.texts.proofs.Reading.{sheet_start, steps_length, sheet_missed, schedu
 use Rattle.texts.proofs.TextLaws.{text_is_read, text_is_refused}
 use Rattle.texts.proofs.text.read_text.Goals as goal
 
-pub returns-in-err-table : goal.returns-in-err-table
-returns-in-err-table c =
-    let p = err_from_is_err_and c.from-residual.result c.from-residual.ensures.1 in
+pub returns-in_err-table : goal.returns-in_err-table
+returns-in_err-table c =
+    let p = err_from_is_err_and c.from_residual.result c.from_residual.ensures.1 in
     let new = c.new-reader.ensures in
     let start = sheet_start c.args.most c.args.text.now c.new-reader.result new.0 new.1 new.2 in
-    let e = sheet_missed c.args.most c.args.text.now _ (sym start ∙ c.in-err-table.ensures) in
+    let e = sheet_missed c.args.most c.args.text.now _ (sym start ∙ c.in_err-table.ensures) in
     rw (p.1, p.2) (record { long = omega arith; read = (e, text_is_refused c.args.most c.args.text.now c.requires _ e); beyond = tt })
 
-pub returns-in-err-count : goal.returns-in-err-count
-returns-in-err-count c =
-    let p = err_from_is_err_and c.from-residual-in-err-count.result c.from-residual-in-err-count.ensures.1 in
+pub returns-in_err-count : goal.returns-in_err-count
+returns-in_err-count c =
+    let p = err_from_is_err_and c.from_residual-in_err-count.result c.from_residual-in_err-count.ensures.1 in
     let new = c.new-reader.ensures in
     let start = sheet_start c.args.most c.args.text.now c.new-reader.result new.0 new.1 new.2 in
-    let table = c.in-ok-table.table in
-    let got = c.in-ok-table.ensures in
+    let table = c.in_ok-table.table in
+    let got = c.in_ok-table.ensures in
     let w = network_of table in
     let reader = c.sheet.new.self in
     let sized = table_length table in
-    let line : c.sheet.new.self.lines + 1 ≡ 2 + size (network_of c.in-ok-table.table) = omega (arith, got.3.counted, new.2) in
-    let e = schedule_missed c.args.most c.args.text.now w (rest reader) (sym start ∙ got.0) _ ((λ x. schedule_in (sized x) (sym line x) (rest c.sheet.new.self)) ∙ c.in-err-count.ensures) in
+    let line : c.sheet.new.self.lines + 1 ≡ 2 + size (network_of c.in_ok-table.table) = omega (arith, got.3.counted, new.2) in
+    let e = schedule_missed c.args.most c.args.text.now w (rest reader) (sym start ∙ got.0) _ ((λ x. schedule_in (sized x) (sym line x) (rest c.sheet.new.self)) ∙ c.in_err-count.ensures) in
     rw (p.1, p.2) (record { long = omega arith; read = (e, text_is_refused c.args.most c.args.text.now c.requires _ e); beyond = tt })
 
 pub returns : goal.returns
@@ -37,14 +37,14 @@ returns c =
     let most = c.args.most in
     let text = c.args.text.now in
     let start = sheet_start c.args.most c.args.text.now c.new-reader.result new.0 new.1 new.2 in
-    let table = c.in-ok-table.table in
-    let got = c.in-ok-table.ensures in
+    let table = c.in_ok-table.table in
+    let got = c.in_ok-table.ensures in
     let w = network_of table in
     let reader = c.sheet.new.self in
     let sized = table_length table in
-    let line : c.sheet.new.self.lines + 1 ≡ 2 + size (network_of c.in-ok-table.table) = omega (arith, got.3.counted, new.2) in
-    let steps = c.in-ok-count.ensures in
-    let ss = map timed (take c.in-ok-count.count c.schedule.new.steps) in
+    let line : c.sheet.new.self.lines + 1 ≡ 2 + size (network_of c.in_ok-table.table) = omega (arith, got.3.counted, new.2) in
+    let steps = c.in_ok-count.ensures in
+    let ss = map timed (take c.in_ok-count.count c.schedule.new.steps) in
     let schedule = (λ x. schedule_in (sized x) (sym line x) (rest c.sheet.new.self)) ∙ steps.0 in
     let verdict = text_read most text w (rest reader) (sym start ∙ got.0) ss schedule in
     record {
@@ -53,7 +53,7 @@ returns c =
         network = w;
         verdict = verdict;
         whole = text_is_read most text c.requires w ss (rest reader) (sym start ∙ got.0) schedule verdict;
-        long = sym (steps_length c.schedule.new.steps c.in-ok-count.count (omega (arith, steps.2)));
+        long = sym (steps_length c.schedule.new.steps c.in_ok-count.count (omega (arith, steps.2)));
         joined = refl;
         sized = sym sized;
       };

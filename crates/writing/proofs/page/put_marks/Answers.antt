@@ -15,9 +15,9 @@ loop-k-preserved c =
     let bs = c.args.marks.now in
     let k = c.loop-k.k in
     let long : length (map mark (take c.loop-k.k c.args.marks.now)) ≡ c.loop-k.k = length-map (take k bs) mark ∙ length-take-le k bs (omega arith) in
-    ap (λ (l : List ℕ). set l (at + k) c.letter-of-mark.result) c.loop-k.invariant
-    ∙ put_more s at (omega arith) (map mark (take k bs)) c.letter-of-mark.result (at + k) (omega arith) (omega arith)
-    ∙ ap (λ (y : ℕ). put_at at (map mark (take k bs) ++ y ∷ []) s) c.letter-of-mark.ensures
+    ap (λ (l : List ℕ). set l (at + k) c.letter_of_mark.result) c.loop-k.invariant
+    ∙ put_more s at (omega arith) (map mark (take k bs)) c.letter_of_mark.result (at + k) (omega arith) (omega arith)
+    ∙ ap (λ (y : ℕ). put_at at (map mark (take k bs) ++ y ∷ []) s) c.letter_of_mark.ensures
     ∙ ap (λ (l : List ℕ). put_at at l s) (sym (map_more mark bs k false (omega arith)))
 
 pub returns : goal.returns

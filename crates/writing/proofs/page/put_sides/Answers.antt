@@ -15,9 +15,9 @@ loop-k-preserved c =
     let r = c.args.report.now in
     let k = c.loop-k.k in
     let n = sides_length c.args.report.now c.loop-k.k in
-    ap (λ (l : List ℕ). set l (at + k) c.letter-of-side.result) c.loop-k.invariant
-    ∙ put_more s at (omega arith) (sides r k) c.letter-of-side.result (at + k) (omega arith) (omega arith)
-    ∙ ap (λ (y : ℕ). put_at at (sides r k ++ y ∷ []) s) c.letter-of-side.ensures
+    ap (λ (l : List ℕ). set l (at + k) c.letter_of_side.result) c.loop-k.invariant
+    ∙ put_more s at (omega arith) (sides r k) c.letter_of_side.result (at + k) (omega arith) (omega arith)
+    ∙ ap (λ (y : ℕ). put_at at (sides r k ++ y ∷ []) s) c.letter_of_side.ensures
     ∙ ap (λ (l : List ℕ). put_at at l s) (sym (sides_more r k))
 
 pub returns : goal.returns

@@ -7,4 +7,4 @@ use Rattle.writing.proofs.sheet_lines.put_header.Goals as goal
 pub returns : goal.returns
 returns c =
     let t = c.args.table.now in
-    header_done c.args.space.now 0 (omega arith) _ _ _ _ _ _ (network_of t) t.count (sym (table_length t)) c.put-bytes.ensures c.put-number.ensures c.put-number-2.ensures c.put-number-3.ensures c.put-number-4.ensures c.put-bytes-2.ensures
+    header_done c.args.space.now 0 (omega arith) _ _ _ _ _ _ (network_of t) t.count (sym (table_length t)) c.put_bytes.ensures c.put_number.ensures c.put_number-2.ensures c.put_number-3.ensures c.put_number-4.ensures c.put_bytes-2.ensures

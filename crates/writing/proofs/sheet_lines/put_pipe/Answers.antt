@@ -5,4 +5,4 @@ use Rattle.writing.proofs.sheet_lines.put_pipe.Goals as goal
 
 pub returns : goal.returns
 returns c =
-    pipe_done c.args.space.now c.args.at (omega arith) _ _ _ _ _ _ (pipe_of c.args.row.now) _ c.letter-of-valve.ensures (omega arith) c.put-bytes.ensures c.put-number.ensures c.put-number-2.ensures c.put-number-3.ensures c.put-bytes-2.ensures c.put-bytes-3.ensures
+    pipe_done c.args.space.now c.args.at (omega arith) _ _ _ _ _ _ (pipe_of c.args.row.now) _ c.letter_of_valve.ensures (omega arith) c.put_bytes.ensures c.put_number.ensures c.put_number-2.ensures c.put_number-3.ensures c.put_bytes-2.ensures c.put_bytes-3.ensures
