@@ -24,9 +24,9 @@ fn improve<M: PathMetric>(
     requires inside { from < length labels.old }
     requires onto { to < length labels.old }
     requires light { amount ≤ 60000 }
-    requires known { suc (steps_at labels.old from) < length labels.old → InRange start none extended 62 (length_at means none labels.old from) }
-    requires told { InRange start none extended 63 (length_at means none labels.old to) }
-    ensures { Improves means good none extended labels.old from to amount step labels.new result }
+    requires known { suc (steps_at labels.old from) < length labels.old → InRange M.start M.none M.extended 62 (length_at M.means M.none labels.old from) }
+    requires told { InRange M.start M.none M.extended 63 (length_at M.means M.none labels.old to) }
+    ensures { Improves M.means M.good M.none M.extended labels.old from to amount step labels.new result }
 {
     let label = labels[from];
     if label.steps >= labels.len() - 1 {
@@ -50,9 +50,9 @@ fn relax<M: PathMetric>(table: &Table, source: usize, step: Step, labels: &mut [
     requires wide { length labels.old ≡ table.now.junctions }
     requires source { source < table.now.junctions }
     requires inside { step.pipe < table.now.count }
-    requires kept { Kept (network_of table.now) (flow_of table.now) source means good start none extended labels.old }
-    ensures follows { Follows (network_of table.now) (flow_of table.now) source means good start none extended labels.old labels.new result }
-    ensures relaxed { Relaxed (network_of table.now) (flow_of table.now) means good none extended labels.old labels.new step }
+    requires kept { Kept (network_of table.now) (flow_of table.now) source M.means M.good M.start M.none M.extended labels.old }
+    ensures follows { Follows (network_of table.now) (flow_of table.now) source M.means M.good M.start M.none M.extended labels.old labels.new result }
+    ensures relaxed { Relaxed (network_of table.now) (flow_of table.now) M.means M.good M.none M.extended labels.old labels.new step }
 {
     let row = table.rows[step.pipe];
     let to = head_of(&row, step.direction);
@@ -73,9 +73,9 @@ fn relax_pipe<M: PathMetric>(
     requires wide { length labels.old ≡ table.now.junctions }
     requires source { source < table.now.junctions }
     requires inside { pipe < table.now.count }
-    requires kept { Kept (network_of table.now) (flow_of table.now) source means good start none extended labels.old }
-    ensures follows { Follows (network_of table.now) (flow_of table.now) source means good start none extended labels.old labels.new result }
-    ensures done { Done (network_of table.now) (flow_of table.now) means good none extended labels.old labels.new (λ j. j ≡ pipe) }
+    requires kept { Kept (network_of table.now) (flow_of table.now) source M.means M.good M.start M.none M.extended labels.old }
+    ensures follows { Follows (network_of table.now) (flow_of table.now) source M.means M.good M.start M.none M.extended labels.old labels.new result }
+    ensures done { Done (network_of table.now) (flow_of table.now) M.means M.good M.none M.extended labels.old labels.new (λ j. j ≡ pipe) }
 {
     let valve = table.rows[pipe].valve;
     match valve {
@@ -108,9 +108,9 @@ fn relax_pipe<M: PathMetric>(
 fn sweep<M: PathMetric>(table: &Table, source: usize, labels: &mut [Label<M>]) -> bool
     requires wide { length labels.old ≡ table.now.junctions }
     requires source { source < table.now.junctions }
-    requires kept { Kept (network_of table.now) (flow_of table.now) source means good start none extended labels.old }
-    ensures follows { Follows (network_of table.now) (flow_of table.now) source means good start none extended labels.old labels.new result }
-    ensures done { Done (network_of table.now) (flow_of table.now) means good none extended labels.old labels.new (λ j. j < table.now.count) }
+    requires kept { Kept (network_of table.now) (flow_of table.now) source M.means M.good M.start M.none M.extended labels.old }
+    ensures follows { Follows (network_of table.now) (flow_of table.now) source M.means M.good M.start M.none M.extended labels.old labels.new result }
+    ensures done { Done (network_of table.now) (flow_of table.now) M.means M.good M.none M.extended labels.old labels.new (λ j. j < table.now.count) }
 {
     let mut changed = false;
     for pipe in 0..table.count {
@@ -123,7 +123,7 @@ fn sweep<M: PathMetric>(table: &Table, source: usize, labels: &mut [Label<M>]) -
 // Labels the source with the path of no pipe, and no other junction.
 fn reset<M: PathMetric>(labels: &mut [Label<M>], source: usize)
     requires { source < length labels.old }
-    ensures { Blank means start none source labels.new }
+    ensures { Blank M.means M.start M.none source labels.new }
 {
     let blank = Label {
         length: M::no_way(),
@@ -144,10 +144,10 @@ fn reset<M: PathMetric>(labels: &mut [Label<M>], source: usize)
 fn settle<M: PathMetric>(table: &Table, source: usize, labels: &mut [Label<M>])
     requires wide { length labels.old ≡ table.now.junctions }
     requires source { source < table.now.junctions }
-    requires kept { Kept (network_of table.now) (flow_of table.now) source means good start none extended labels.old }
-    requires begun { Within (network_of table.now) (flow_of table.now) source means good start none extended 0 labels.old }
-    ensures kept { Kept (network_of table.now) (flow_of table.now) source means good start none extended labels.new }
-    ensures best { Best (network_of table.now) (flow_of table.now) source means good start none extended labels.new }
+    requires kept { Kept (network_of table.now) (flow_of table.now) source M.means M.good M.start M.none M.extended labels.old }
+    requires begun { Within (network_of table.now) (flow_of table.now) source M.means M.good M.start M.none M.extended 0 labels.old }
+    ensures kept { Kept (network_of table.now) (flow_of table.now) source M.means M.good M.start M.none M.extended labels.new }
+    ensures best { Best (network_of table.now) (flow_of table.now) source M.means M.good M.start M.none M.extended labels.new }
 {
     for _round in 1..table.junctions {
         if !sweep(table, source, labels) {
@@ -166,7 +166,7 @@ fn search<M: PathMetric>(
     requires wide { length labels.old ≡ table.now.junctions }
     requires source { source < table.now.junctions }
     requires goal { goal < table.now.junctions }
-    ensures { Answer (network_of table.now) (flow_of table.now) source goal means good start extended labels.new result }
+    ensures { Answer (network_of table.now) (flow_of table.now) source goal M.means M.good M.start M.extended labels.new result }
 {
     reset(labels, source);
     settle(table, source, labels);
@@ -188,7 +188,7 @@ pub fn best_path<M: PathMetric>(
     requires source { source < table.now.junctions }
     requires goal { goal < table.now.junctions }
     requires places { table.now.junctions ≤ length labels.old }
-    ensures answer { Answer (network_of table.now) (flow_of table.now) source goal means good start extended labels.new result }
+    ensures answer { Answer (network_of table.now) (flow_of table.now) source goal M.means M.good M.start M.extended labels.new result }
     ensures beyond { drop table.now.junctions labels.new ≡ drop table.now.junctions labels.old }
 {
     search(table, source, goal, &mut labels[0..table.junctions])

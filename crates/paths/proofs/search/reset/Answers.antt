@@ -11,5 +11,5 @@ loop-label-preserved g c =
 pub returns : goal.returns
 returns g c =
     let m = g.M.PathMetric in
-    blank_set m.means m.start m.none c.loop-label.labels (record { length = c.no-way.result; steps = 0; via = None }) (record { length = c.no-pipe.result; steps = 0; via = None }) c.args.source (omega arith)
-    (λ k h. c.loop-label.invariant k (omega arith)) c.no-way.ensures refl refl c.no-pipe.ensures refl refl
+    blank_set m.means m.start m.none c.loop-label.labels (record { length = c.no_way.result; steps = 0; via = None }) (record { length = c.no_pipe.result; steps = 0; via = None }) c.args.source (omega arith)
+    (λ k h. c.loop-label.invariant k (omega arith)) c.no_way.ensures refl refl c.no_pipe.ensures refl refl

@@ -19,7 +19,7 @@ loop-round-preserved g c =
     let t = c.args.table.now in
     let f = c.sweep.ensures in (
       f.follows.kept,
-      λ qs b h k. within_more m.means m.laws (sound t) c.args.source c.requires.source c.loop-round.labels c.sweep.new.labels c.sweep.result (c.loop-round.-round - 1) c.loop-round.invariant.0 f.follows (λ s i r. f.done s (let e = size_is t in omega arith) r) c.loop-round.invariant.1 qs b h (omega arith),
+      λ qs b h k. within_more m.means m.laws (sound t) c.args.source c.requires.source c.loop-round.labels c.sweep.new.labels c.sweep.result (c.loop-round._round - 1) c.loop-round.invariant.0 f.follows (λ s i r. f.done s (let e = size_is t in omega arith) r) c.loop-round.invariant.1 qs b h (omega arith),
     )
 
 pub returns : goal.returns
@@ -28,5 +28,5 @@ returns g c =
     let t = c.args.table.now in
     record {
       kept = c.loop-round.invariant.0;
-      best = best_all m.means m.laws (sound t) c.args.source c.requires.source c.loop-round.labels (c.loop-round.-round - 1) (omega arith) c.loop-round.invariant.1;
+      best = best_all m.means m.laws (sound t) c.args.source c.requires.source c.loop-round.labels (c.loop-round._round - 1) (omega arith) c.loop-round.invariant.1;
     }

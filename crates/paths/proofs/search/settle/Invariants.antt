@@ -7,4 +7,4 @@ abbrev pub invariant-loop-round : goal.invariant-loop-round
 invariant-loop-round g l =
     let m = g.M.PathMetric in
     Kept (network_of l.table) (flow_of l.table) l.source m.means m.good m.start m.none m.extended l.labels
-    × Within (network_of l.table) (flow_of l.table) l.source m.means m.good m.start m.none m.extended (l.-round - 1) l.labels
+    × Within (network_of l.table) (flow_of l.table) l.source m.means m.good m.start m.none m.extended (l._round - 1) l.labels
