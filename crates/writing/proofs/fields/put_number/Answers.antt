@@ -14,5 +14,5 @@ loop-k-preserved c =
     (omega arith, omega (arith, inv.1), front_step _ c.loop-k.space c.loop-k.k c.if-rest-eq0.space inv.2, put_step c.loop-k.space c.args.from c.loop-k.k c.loop-k.rest c.if-rest-eq0.space _ c.loop-k-test.true l d inv.3)
 
 pub returns : goal.returns
-returns c = put_done c.args.space.now c.loop-k.space c.args.from c.args.to c.loop-k.k c.args.value c.loop-k.rest c.requires.0 c.requires.1 (omega (arith, c.loop-k.invariant.0)) c.loop-k.invariant.2 c.loop-k.invariant.3
+returns c = put_done c.args.space.now c.loop-k.space c.args.from c.args.to c.loop-k.k c.args.value c.loop-k.rest c.requires.from_lt_to c.requires.to_in_bounds (omega (arith, c.loop-k.invariant.0)) c.loop-k.invariant.2 c.loop-k.invariant.3
     ∙ put_written c.args.space.now c.args.from c.args.to c.args.value (omega arith)
