@@ -30,7 +30,7 @@ pub fn augment<M: PathMetric>(
     ensures same { network_of table.new ≡ network_of table.old }
     ensures answer { elim result [
       | None ↦ (flow_of table.new ≡ flow_of table.old) × ((ss : List Step) → Path (network_of table.old) (flow_of table.old) source ss goal → ⊥)
-      | Some c ↦ Augments (network_of table.old) good start extended source goal most (flow_of table.old) c (flow_of table.new)
+      | Some c ↦ Augments (network_of table.old) M.good M.start M.extended source goal most (flow_of table.old) c (flow_of table.new)
     ] }
 {
     best_path(table, source, goal, labels)?;
@@ -47,7 +47,7 @@ pub fn fill<M: PathMetric>(table: &mut Table, labels: &mut [Label<M>]) -> u32
     ensures same { network_of table.new ≡ network_of table.old }
     ensures flow { Flow (network_of table.old) (flow_of table.new) }
     ensures done { (ss : List Step) → Path (network_of table.old) (flow_of table.new) table.old.pump ss table.old.outlet → ⊥ }
-    ensures count { Fills (network_of table.old) good start extended (flow_of table.old) result (flow_of table.new) }
+    ensures count { Fills (network_of table.old) M.good M.start M.extended (flow_of table.old) result (flow_of table.new) }
     ensures few { result ≤ 30720000 }
 {
     let pump = table.pump;

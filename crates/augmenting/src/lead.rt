@@ -22,7 +22,7 @@ pub fn lead<M: PathMetric>(
     requires goal { goal < table.old.junctions }
     requires places { table.old.junctions ≤ length labels.old }
     ensures same { network_of table.new ≡ network_of table.old }
-    ensures leads { Leads (network_of table.old) good start extended source goal amount (flow_of table.old) result.count result.rest (flow_of table.new) }
+    ensures leads { Leads (network_of table.old) M.good M.start M.extended source goal amount (flow_of table.old) result.count result.rest (flow_of table.new) }
     ensures few { result.count + result.rest ≤ amount }
     ensures blocked { 0 < result.rest → NoPath (network_of table.old) (flow_of table.new) source goal }
 {
@@ -51,7 +51,7 @@ fn give_back<M: PathMetric>(
     requires places { table.old.junctions ≤ length labels.old }
     ensures same { network_of table.new ≡ network_of table.old }
     ensures few { result ≤ amount }
-    ensures gives { GivesBack (network_of table.old) good start extended source goal amount (flow_of table.old) result (flow_of table.new) }
+    ensures gives { GivesBack (network_of table.old) M.good M.start M.extended source goal amount (flow_of table.old) result (flow_of table.new) }
 {
     if source == goal {
         return 0;
@@ -74,7 +74,7 @@ pub fn mend<M: PathMetric>(
     requires few { lost ≤ 60000 }
     requires torn { (v : ℕ) × Torn (network_of table.old) (flow_of table.old) from to v v lost lost }
     ensures same { network_of table.new ≡ network_of table.old }
-    ensures mends { Mends (network_of table.old) good start extended from to lost (flow_of table.old) result (flow_of table.new) }
+    ensures mends { Mends (network_of table.old) M.good M.start M.extended from to lost (flow_of table.old) result (flow_of table.new) }
     ensures few { result ≤ 180000 }
 {
     let pump = table.pump;

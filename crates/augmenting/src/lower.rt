@@ -36,7 +36,7 @@ pub fn lower<M: PathMetric>(
     requires places { table.old.junctions ≤ length labels.old }
     requires greatest { Greatest (network_of table.old) (flow_of table.old) }
     ensures network { network_of table.new ≡ with_pipe (network_of table.old) k (with_valve (with_limit (pipe (network_of table.old) k) limit) valve) }
-    ensures lowers { Lowers good start extended (network_of table.old) (flow_of table.old) k (with_valve (with_limit (pipe (network_of table.old) k) limit) valve) keep result (flow_of table.new) }
+    ensures lowers { Lowers M.good M.start M.extended (network_of table.old) (flow_of table.old) k (with_valve (with_limit (pipe (network_of table.old) k) limit) valve) keep result (flow_of table.new) }
     ensures greatest { Greatest (network_of table.new) (flow_of table.new) }
     ensures few { result ≤ 180000 }
 {
@@ -50,7 +50,7 @@ fn close_by<M: PathMetric>(table: &mut Table, k: usize, letter: u8, labels: &mut
     requires inside { k < table.old.count }
     requires places { table.old.junctions ≤ length labels.old }
     requires greatest { Greatest (network_of table.old) (flow_of table.old) }
-    ensures closes { ClosesBy good start extended (network_of table.old) (flow_of table.old) k (setting_of letter) (network_of table.new) result (flow_of table.new) }
+    ensures closes { ClosesBy M.good M.start M.extended (network_of table.old) (flow_of table.old) k (setting_of letter) (network_of table.new) result (flow_of table.new) }
     ensures greatest { Greatest (network_of table.new) (flow_of table.new) }
     ensures few { result ≤ 180000 }
 {
@@ -72,7 +72,7 @@ pub fn close_marked<M: PathMetric>(
     requires long { length letters.now ≡ table.old.count }
     requires places { table.old.junctions ≤ length labels.old }
     requires greatest { Greatest (network_of table.old) (flow_of table.old) }
-    ensures closings { Closings good start extended (network_of table.old) (flow_of table.old) letters.now table.old.count (network_of table.new) result (flow_of table.new) }
+    ensures closings { Closings M.good M.start M.extended (network_of table.old) (flow_of table.old) letters.now table.old.count (network_of table.new) result (flow_of table.new) }
     ensures greatest { Greatest (network_of table.new) (flow_of table.new) }
     ensures few { result ≤ 92160000 }
 {

@@ -75,7 +75,7 @@ impl Settled {
         requires forth { inflow (network_of table) (flow_of table) table.pump ≤ outflow (network_of table) (flow_of table) table.pump }
         ensures same { network_of self.new.table ≡ network_of table }
         ensures change { result.0 ≡ change (network_of self.old.table) (network_of table) }
-        ensures count { Fills (network_of table) good start extended (flow_of table) result.1 (flow_of self.new.table) }
+        ensures count { Fills (network_of table) M.good M.start M.extended (flow_of table) result.1 (flow_of self.new.table) }
         ensures few { result.1 ≤ 30720000 }
     {
         let mut table = table;

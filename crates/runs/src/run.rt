@@ -36,7 +36,7 @@ fn ask<E: FlowEngine>(
     request: &Request,
     work: &mut [E::Place],
 ) -> Result<Answer, AllocError>
-    ensures { IfOk result (λ a. Answers E.Engine.most E.FlowEngine.manner Metric-as-PathMetric.good Metric-as-PathMetric.start Metric-as-PathMetric.extended (length work.old)
+    ensures { IfOk result (λ a. Answers E.Engine.most E.FlowEngine.manner E.Metric.PathMetric.good E.Metric.PathMetric.start E.Metric.PathMetric.extended (length work.old)
         (E.Engine.meaning engine.old) (E.FlowEngine.kept engine.old) request.now a (E.Engine.meaning engine.new) (E.FlowEngine.kept engine.new)) }
 {
     match *request {
@@ -92,7 +92,7 @@ fn answer_call<E: FlowEngine>(
     call: &Call,
     work: &mut [E::Place],
 ) -> Result<Answer, AllocError>
-    ensures { IfOk result (λ a. Answers E.Engine.most E.FlowEngine.manner Metric-as-PathMetric.good Metric-as-PathMetric.start Metric-as-PathMetric.extended (min call.now.places (length work.old))
+    ensures { IfOk result (λ a. Answers E.Engine.most E.FlowEngine.manner E.Metric.PathMetric.good E.Metric.PathMetric.start E.Metric.PathMetric.extended (min call.now.places (length work.old))
         (E.Engine.meaning engine.old) (E.FlowEngine.kept engine.old) call.now.request a (E.Engine.meaning engine.new) (E.FlowEngine.kept engine.new)) }
 {
     let places = call.places.min(work.len());
@@ -108,7 +108,7 @@ fn answer_calls<E: FlowEngine>(
     answers: &mut Vec<Answer>,
 ) -> Result<(), AllocError>
     requires { answers.old.items ≡ [] }
-    ensures begun { Begun E.Engine.most E.FlowEngine.manner Metric-as-PathMetric.good Metric-as-PathMetric.start Metric-as-PathMetric.extended (length work.old)
+    ensures begun { Begun E.Engine.most E.FlowEngine.manner E.Metric.PathMetric.good E.Metric.PathMetric.start E.Metric.PathMetric.extended (length work.old)
         (E.Engine.meaning engine.old) (E.FlowEngine.kept engine.old) calls.now answers.new.items }
     ensures whole { OnOk result (length answers.new.items ≡ length calls.now) }
     ensures short { OnErr result (length answers.new.items < length calls.now) }
@@ -123,7 +123,7 @@ fn answer_calls<E: FlowEngine>(
 // Calls on a new engine, each given the places that it asks for, or the whole workspace.
 // The answers are told of as many calls as there are answers; there is one for every call exactly where the run was not stopped.
 pub fn run<E: FlowEngine + Drop>(heap: Global, calls: &[Call], work: &mut [E::Place]) -> Ran
-    ensures faithful { Faithful E.Engine.most E.FlowEngine.manner Metric-as-PathMetric.good Metric-as-PathMetric.start Metric-as-PathMetric.extended (length work.old)
+    ensures faithful { Faithful E.Engine.most E.FlowEngine.manner E.Metric.PathMetric.good E.Metric.PathMetric.start E.Metric.PathMetric.extended (length work.old)
         calls.now result.answers.items }
     ensures whole { result.stopped ≡ None → length result.answers.items ≡ length calls.now }
     ensures short { (result.stopped ≢ None) → length result.answers.items < length calls.now }
@@ -142,9 +142,9 @@ pub fn run_two<E: FlowEngine + Drop, F: FlowEngine + Drop>(
     others: &[Call],
     spare: &mut [F::Place],
 ) -> (Ran, Ran)
-    ensures one { Faithful E.Engine.most E.FlowEngine.manner Metric-as-PathMetric-1.good Metric-as-PathMetric-1.start Metric-as-PathMetric-1.extended (length work.old)
+    ensures one { Faithful E.Engine.most E.FlowEngine.manner E.Metric.PathMetric.good E.Metric.PathMetric.start E.Metric.PathMetric.extended (length work.old)
         calls.now result.0.answers.items }
-    ensures other { Faithful F.Engine.most F.FlowEngine.manner Metric-as-PathMetric-2.good Metric-as-PathMetric-2.start Metric-as-PathMetric-2.extended (length spare.old)
+    ensures other { Faithful F.Engine.most F.FlowEngine.manner F.Metric.PathMetric.good F.Metric.PathMetric.start F.Metric.PathMetric.extended (length spare.old)
         others.now result.1.answers.items }
     ensures equal { EqualReports E.Engine.most (length work.old) calls.now result.0.answers.items
         F.Engine.most (length spare.old) others.now result.1.answers.items }

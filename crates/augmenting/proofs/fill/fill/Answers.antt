@@ -17,8 +17,8 @@ loop-count-init g c = (refl, c.requires.flow, begun, omega (arith, c.requires.fo
 few : (t u : Table) (n : ℕ) → network_of u ≡ network_of t → n + inflow (network_of t) (flow_of u) t.pump ≤ outflow (network_of t) (flow_of u) t.pump → n ≤ 30720000
 few t u n e h = omega (arith, ap (λ (w : Network). outflow w (flow_of u) t.pump) e, out_few u t.pump)
 
-pub overflow-add-count : goal.overflow-add-count
-overflow-add-count g c = omega (arith, few c.args.table.now c.loop-count.table c.loop-count.count c.loop-count.invariant.0 c.loop-count.invariant.3)
+pub overflow_add-count : goal.overflow_add-count
+overflow_add-count g c = omega (arith, few c.args.table.now c.loop-count.table c.loop-count.count c.loop-count.invariant.0 c.loop-count.invariant.3)
 
 pub loop-count-smaller : goal.loop-count-smaller
 loop-count-smaller g c =
@@ -48,9 +48,9 @@ returns g c =
     let t = c.args.table.now in
     let f = flow_of c.loop-count.table in
     let h = flow_of c.augment.new.table in
-    let none = c.in-default.ensures.answer in
+    let none = c.in_default.ensures.answer in
     record {
-      same = c.in-default.ensures.same ∙ c.loop-count.invariant.0;
+      same = c.in_default.ensures.same ∙ c.loop-count.invariant.0;
       flow = subst (λ (y : List ℕ). Flow (network_of t) y) (sym none.0) c.loop-count.invariant.1;
       done = λ ss p. none.1 ss (subst (λ (w : Network). Path w f t.pump ss t.outlet) (sym c.loop-count.invariant.0) (subst (λ (y : List ℕ). Path (network_of t) y t.pump ss t.outlet) none.0 p));
       count = subst (λ (y : List ℕ). Fills (network_of t) m.good m.start m.extended (flow_of t) c.loop-count.count y) (sym none.0) c.loop-count.invariant.2;

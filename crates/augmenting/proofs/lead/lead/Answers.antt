@@ -8,12 +8,12 @@ use Rattle.augmenting.proofs.lead.lead.Goals as goal
 pub loop-rest-init : goal.loop-rest-init
 loop-rest-init g c = (refl, none_led, omega arith)
 
-pub overflow-sub-rest : goal.overflow-sub-rest
-overflow-sub-rest g c =
+pub overflow_sub-rest : goal.overflow_sub-rest
+overflow_sub-rest g c =
     augmented_most (network_of c.loop-rest.table) c.args.source c.args.goal c.loop-rest.rest (flow_of c.loop-rest.table) c.in-Some.led (flow_of c.augment.new.table) c.in-Some.ensures.answer
 
-pub overflow-add-count : goal.overflow-add-count
-overflow-add-count g c = omega (arith, c.loop-rest.invariant.2)
+pub overflow_add-count : goal.overflow_add-count
+overflow_add-count g c = omega (arith, c.loop-rest.invariant.2)
 
 pub loop-rest-preserved : goal.loop-rest-preserved
 loop-rest-preserved g c =

@@ -22,11 +22,11 @@ module _ {Λ : Type 0} {good : Λ → Λ → Type 0} {start : Λ} {extended : Λ
 pub returns : goal.returns
 returns g c =
     let t = c.args.table.now in
-    let m = legs t c.lead-round.new.table c.give-back-back.new.table c.args.from c.args.to c.args.lost c.requires.from c.requires.to c.requires.torn c.lead-round.ensures.same c.give-back-back.ensures.same
-    c.lead-round.result.count c.lead-round.result.rest c.give-back-back.result c.give-back-forth.result (flow_of c.give-back-forth.new.table)
-    c.lead-round.ensures.leads c.lead-round.ensures.blocked c.give-back-back.ensures.gives c.give-back-forth.ensures.gives in
+    let m = legs t c.lead-round.new.table c.give_back-back.new.table c.args.from c.args.to c.args.lost c.requires.from c.requires.to c.requires.torn c.lead-round.ensures.same c.give_back-back.ensures.same
+    c.lead-round.result.count c.lead-round.result.rest c.give_back-back.result c.give_back-forth.result (flow_of c.give_back-forth.new.table)
+    c.lead-round.ensures.leads c.lead-round.ensures.blocked c.give_back-back.ensures.gives c.give_back-forth.ensures.gives in
     record {
-      same = c.give-back-forth.ensures.same ∙ c.give-back-back.ensures.same ∙ c.lead-round.ensures.same;
+      same = c.give_back-forth.ensures.same ∙ c.give_back-back.ensures.same ∙ c.lead-round.ensures.same;
       mends = m;
-      few = omega (arith, c.lead-round.ensures.few, c.give-back-back.ensures.few, c.give-back-forth.ensures.few, c.requires.few);
+      few = omega (arith, c.lead-round.ensures.few, c.give_back-back.ensures.few, c.give_back-forth.ensures.few, c.requires.few);
     }

@@ -11,31 +11,31 @@ use Rattle.augmenting.proofs.Lowering.{torn_table, lowers_table, lowers_greatest
 use Rattle.augmenting.proofs.Tables.{flow_few}
 use Rattle.augmenting.proofs.lower.lower.Goals as goal
 
-pub overflow-sub-row : goal.overflow-sub-row
-overflow-sub-row g c = omega (arith, c.requires.less, carried_is c.args.table.now c.args.k c.requires.inside)
+pub overflow_sub-row : goal.overflow_sub-row
+overflow_sub-row g c = omega (arith, c.requires.less, carried_is c.args.table.now c.args.k c.requires.inside)
 
 pub mend-requires : goal.mend-requires
 mend-requires g c =
     let t = c.args.table.now in
     let k = c.args.k in
-    let u = c.change-row.new.table in
+    let u = c.change_row.new.table in
     let ends = ends_read t Along k c.requires.inside in
-    let same : c.change-row.new.table.junctions ≡ c.args.table.now.junctions = ap (λ (w : Network). w.junctions) c.change-row.ensures.network in
+    let same : c.change_row.new.table.junctions ≡ c.args.table.now.junctions = ap (λ (w : Network). w.junctions) c.change_row.ensures.network in
     record {
       from = omega (arith, ends.0);
       to = omega (arith, ends.1);
       places = omega (arith, c.requires.places);
       few = omega (arith, flow_few t k c.requires.inside);
-      torn = torn_table t k c.requires.inside c.args.limit c.args.valve c.args.keep u c.change-row.ensures.network c.change-row.ensures.flow c.requires.greatest c.requires.less c.requires.within;
+      torn = torn_table t k c.requires.inside c.args.limit c.args.valve c.args.keep u c.change_row.ensures.network c.change_row.ensures.flow c.requires.greatest c.requires.less c.requires.within;
     }
 
 pub returns : goal.returns
 returns g c =
     let t = c.args.table.now in
     let k = c.args.k in
-    let u = c.change-row.new.table in
-    let network = c.mend.ensures.same ∙ c.change-row.ensures.network in
-    let lowers = lowers_table t k c.requires.inside c.args.limit c.args.valve c.args.keep u c.change-row.ensures.network c.change-row.ensures.flow c.mend.result (flow_of c.mend.new.table) c.mend.ensures.mends in
+    let u = c.change_row.new.table in
+    let network = c.mend.ensures.same ∙ c.change_row.ensures.network in
+    let lowers = lowers_table t k c.requires.inside c.args.limit c.args.valve c.args.keep u c.change_row.ensures.network c.change_row.ensures.flow c.mend.result (flow_of c.mend.new.table) c.mend.ensures.mends in
     record {
       network = network;
       lowers = lowers;

@@ -19,33 +19,33 @@ loop-turn-init g c =
       ap (λ (m : ℕ). least_weight_of (network_of t) (flow_of t) c.args.most (spelled (network_of t) via m c.args.goal)) z,
     )
 
-pub returns-in-default : goal.returns-in-default
-returns-in-default g c =
+pub returns-in_default : goal.returns-in_default
+returns-in_default g c =
     let t = c.args.table.now in
     let ls = c.args.labels.now in
     let inside : c.loop-turn.at < length c.args.labels.now = omega (arith, c.loop-turn.invariant.0, c.requires.places) in
-    let none = turn_end (network_of t) ls t.junctions c.loop-turn.-turn c.loop-turn.at c.index-labels-at.result c.loop-turn-test.true inside c.index-labels-at.is c.in-default.is in
+    let none = turn_end (network_of t) ls t.junctions c.loop-turn._turn c.loop-turn.at c.index-labels-at.result c.loop-turn-test.true inside c.index-labels-at.is c.in_default.is in
     sym (ap (least_weight_of (network_of t) (flow_of t) c.loop-turn.least) none) ∙ c.loop-turn.invariant.2
 
-pub offset-bounds-table-step : goal.offset-bounds-table-step
-offset-bounds-table-step g c =
+pub offset_bounds-table-step : goal.offset_bounds-table-step
+offset_bounds-table-step g c =
     let t = c.args.table.now in
     let inside : c.loop-turn.at < length c.args.labels.now = omega (arith, c.loop-turn.invariant.0, c.requires.places) in
-    let h = (turn_all (network_of t) c.args.labels.now t.junctions c.loop-turn.-turn c.loop-turn.at c.index-labels-at.result c.loop-turn-test.true inside c.index-labels-at.is c.in-Some.step c.in-Some.is (λ s. s.pipe < t.count) c.loop-turn.invariant.1).0 in
+    let h = (turn_all (network_of t) c.args.labels.now t.junctions c.loop-turn._turn c.loop-turn.at c.index-labels-at.result c.loop-turn-test.true inside c.index-labels-at.is c.in-Some.step c.in-Some.is (λ s. s.pipe < t.count) c.loop-turn.invariant.1).0 in
     omega (arith, c.args.table.now.held)
 
 pub bounds-table-step : goal.bounds-table-step
 bounds-table-step g c =
     let t = c.args.table.now in
     let inside : c.loop-turn.at < length c.args.labels.now = omega (arith, c.loop-turn.invariant.0, c.requires.places) in
-    let h = (turn_all (network_of t) c.args.labels.now t.junctions c.loop-turn.-turn c.loop-turn.at c.index-labels-at.result c.loop-turn-test.true inside c.index-labels-at.is c.in-Some.step c.in-Some.is (λ s. s.pipe < t.count) c.loop-turn.invariant.1).0 in
+    let h = (turn_all (network_of t) c.args.labels.now t.junctions c.loop-turn._turn c.loop-turn.at c.index-labels-at.result c.loop-turn-test.true inside c.index-labels-at.is c.in-Some.step c.in-Some.is (λ s. s.pipe < t.count) c.loop-turn.invariant.1).0 in
     omega (arith, c.args.table.now.held)
 
-pub weight-of-requires : goal.weight-of-requires
-weight-of-requires g c =
+pub weight_of-requires : goal.weight_of-requires
+weight_of-requires g c =
     let t = c.args.table.now in
     let inside : c.loop-turn.at < length c.args.labels.now = omega (arith, c.loop-turn.invariant.0, c.requires.places) in
-    sound_read t c.in-Some.step.pipe (turn_all (network_of t) c.args.labels.now t.junctions c.loop-turn.-turn c.loop-turn.at c.index-labels-at.result c.loop-turn-test.true inside c.index-labels-at.is c.in-Some.step c.in-Some.is (λ s. s.pipe < t.count) c.loop-turn.invariant.1).0
+    sound_read t c.in-Some.step.pipe (turn_all (network_of t) c.args.labels.now t.junctions c.loop-turn._turn c.loop-turn.at c.index-labels-at.result c.loop-turn-test.true inside c.index-labels-at.is c.in-Some.step c.in-Some.is (λ s. s.pipe < t.count) c.loop-turn.invariant.1).0
 
 pub loop-turn-preserved : goal.loop-turn-preserved
 loop-turn-preserved g c =
@@ -54,15 +54,15 @@ loop-turn-preserved g c =
     let f = flow_of t in
     let ls = c.args.labels.now in
     let n = t.junctions in
-    let k = c.loop-turn.-turn in
+    let k = c.loop-turn._turn in
     let s = c.in-Some.step in
     let inside : c.loop-turn.at < length c.args.labels.now = omega (arith, c.loop-turn.invariant.0, c.requires.places) in
     let all = turn_all w ls n k c.loop-turn.at c.index-labels-at.result c.loop-turn-test.true inside c.index-labels-at.is s c.in-Some.is (λ s. s.pipe < t.count) c.loop-turn.invariant.1 in
-    let e : c.tail-of-at.result ≡ tail (network_of c.args.table.now) c.in-Some.step = c.tail-of-at.ensures ∙ tail_read t s all.0 _ refl in
+    let e : c.tail_of-at.result ≡ tail (network_of c.args.table.now) c.in-Some.step = c.tail_of-at.ensures ∙ tail_read t s all.0 _ refl in
     let m : c.min-least.result ≡ min c.loop-turn.least (weight (network_of c.args.table.now) (flow_of c.args.table.now) c.in-Some.step) =
-    c.min-least.ensures ∙ ap (min c.loop-turn.least) (c.weight-of.ensures ∙ weight_read t s all.0 _ refl) in
+    c.min-least.ensures ∙ ap (min c.loop-turn.least) (c.weight_of.ensures ∙ weight_read t s all.0 _ refl) in
     let more = turn_more w ls n k c.loop-turn.at c.index-labels-at.result c.loop-turn-test.true inside c.index-labels-at.is s c.in-Some.is in (
-      subst (λ (x : ℕ). x < t.junctions) (sym c.tail-of-at.ensures) (ends_read t s.direction s.pipe all.0).0,
+      subst (λ (x : ℕ). x < t.junctions) (sym c.tail_of-at.ensures) (ends_read t s.direction s.pipe all.0).0,
       subst (λ (x : ℕ). All (λ s. s.pipe < t.count) (spelled w (via_at ls) (n - (k + 1)) x)) (sym e) all.1,
       ap (λ (x : ℕ). least_weight_of w f c.min-least.result (spelled w (via_at ls) (n - (k + 1)) x)) e
           ∙ ap (λ (x : ℕ). least_weight_of w f x (spelled w (via_at ls) (n - (k + 1)) (tail w s))) m
@@ -73,5 +73,5 @@ loop-turn-preserved g c =
 pub returns : goal.returns
 returns g c =
     let t = c.args.table.now in
-    sym (ap (least_weight_of (network_of t) (flow_of t) c.loop-turn.least) (spelled_none (network_of t) (via_at c.args.labels.now) t.junctions c.loop-turn.-turn c.loop-turn.at c.loop-turn-test.false))
+    sym (ap (least_weight_of (network_of t) (flow_of t) c.loop-turn.least) (spelled_none (network_of t) (via_at c.args.labels.now) t.junctions c.loop-turn._turn c.loop-turn.at c.loop-turn-test.false))
     ∙ c.loop-turn.invariant.2

@@ -7,14 +7,14 @@ use Rattle.network.specs.Residual.{weight_by}
 use Rattle.augmenting.proofs.Pushes.{along_fits, along_small, against_fits}
 use Rattle.augmenting.proofs.push.moved.Goals as goal
 
-pub overflow-add-result : goal.overflow-add-result
-overflow-add-result c =
+pub overflow_add-result : goal.overflow_add-result
+overflow_add-result c =
     let r = c.args.row.now in
     let t : c.args.amount ≤ weight_by Along (pipe_of r) r.flow = subst (λ (d : Direction). c.args.amount ≤ weight_by d (pipe_of r) r.flow) c.in-Along.is c.requires.takes in
     omega (arith, along_small r c.args.amount c.requires.limited c.requires.sound t)
 
-pub overflow-sub-result : goal.overflow-sub-result
-overflow-sub-result c =
+pub overflow_sub-result : goal.overflow_sub-result
+overflow_sub-result c =
     let r = c.args.row.now in
     against_fits r c.args.amount (subst (λ (d : Direction). c.args.amount ≤ weight_by d (pipe_of r) r.flow) c.in-Against.is c.requires.takes)
 

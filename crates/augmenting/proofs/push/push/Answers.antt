@@ -29,11 +29,11 @@ loop-turn-init g c =
       ap (λ (m : ℕ). pushed f c.args.amount (spelled w via m c.args.goal)) z,
     )
 
-pub returns-in-default : goal.returns-in-default
-returns-in-default g c =
+pub returns-in_default : goal.returns-in_default
+returns-in_default g c =
     let t = c.args.table.now in
     let inside : c.loop-turn.at < length c.args.labels.now = omega (arith, c.loop-turn.invariant.0, c.requires.places) in
-    let none = turn_end (network_of t) c.args.labels.now t.junctions c.loop-turn.-turn c.loop-turn.at c.index-labels-at.result c.loop-turn-test.true inside c.index-labels-at.is c.in-default.is in
+    let none = turn_end (network_of t) c.args.labels.now t.junctions c.loop-turn._turn c.loop-turn.at c.index-labels-at.result c.loop-turn-test.true inside c.index-labels-at.is c.in_default.is in
     record {
       same = c.loop-turn.invariant.1;
       count = c.loop-turn.invariant.2;
@@ -49,22 +49,22 @@ step_takes t now ls k b c l s more inside is step same count all =
     let i = h.0 in
     (omega (arith, size_is t), subst (λ (w : Network). c ≤ weight w (flow_of now) s) (sym same) h.1)
 
-pub offset-bounds-table-step : goal.offset-bounds-table-step
-offset-bounds-table-step g c =
+pub offset_bounds-table-step : goal.offset_bounds-table-step
+offset_bounds-table-step g c =
     let inside : c.loop-turn.at < length c.args.labels.now = omega (arith, c.loop-turn.invariant.0, c.requires.places) in
-    let h = (step_takes c.args.table.now c.loop-turn.table c.args.labels.now c.loop-turn.-turn c.loop-turn.at c.args.amount c.index-labels-at.result c.in-Some.step c.loop-turn-test.true inside c.index-labels-at.is c.in-Some.is c.loop-turn.invariant.1 c.loop-turn.invariant.2 c.loop-turn.invariant.3).0 in
+    let h = (step_takes c.args.table.now c.loop-turn.table c.args.labels.now c.loop-turn._turn c.loop-turn.at c.args.amount c.index-labels-at.result c.in-Some.step c.loop-turn-test.true inside c.index-labels-at.is c.in-Some.is c.loop-turn.invariant.1 c.loop-turn.invariant.2 c.loop-turn.invariant.3).0 in
     omega (arith, c.loop-turn.table.held)
 
 pub bounds-table-step : goal.bounds-table-step
 bounds-table-step g c =
     let inside : c.loop-turn.at < length c.args.labels.now = omega (arith, c.loop-turn.invariant.0, c.requires.places) in
-    let h = (step_takes c.args.table.now c.loop-turn.table c.args.labels.now c.loop-turn.-turn c.loop-turn.at c.args.amount c.index-labels-at.result c.in-Some.step c.loop-turn-test.true inside c.index-labels-at.is c.in-Some.is c.loop-turn.invariant.1 c.loop-turn.invariant.2 c.loop-turn.invariant.3).0 in
+    let h = (step_takes c.args.table.now c.loop-turn.table c.args.labels.now c.loop-turn._turn c.loop-turn.at c.args.amount c.index-labels-at.result c.in-Some.step c.loop-turn-test.true inside c.index-labels-at.is c.in-Some.is c.loop-turn.invariant.1 c.loop-turn.invariant.2 c.loop-turn.invariant.3).0 in
     omega (arith, c.loop-turn.table.held)
 
-pub push-step-requires : goal.push-step-requires
-push-step-requires g c =
+pub push_step-requires : goal.push_step-requires
+push_step-requires g c =
     let inside : c.loop-turn.at < length c.args.labels.now = omega (arith, c.loop-turn.invariant.0, c.requires.places) in
-    let h = step_takes c.args.table.now c.loop-turn.table c.args.labels.now c.loop-turn.-turn c.loop-turn.at c.args.amount c.index-labels-at.result c.in-Some.step c.loop-turn-test.true inside c.index-labels-at.is c.in-Some.is c.loop-turn.invariant.1 c.loop-turn.invariant.2 c.loop-turn.invariant.3 in
+    let h = step_takes c.args.table.now c.loop-turn.table c.args.labels.now c.loop-turn._turn c.loop-turn.at c.args.amount c.index-labels-at.result c.in-Some.step c.loop-turn-test.true inside c.index-labels-at.is c.in-Some.is c.loop-turn.invariant.1 c.loop-turn.invariant.2 c.loop-turn.invariant.3 in
     record { inside = h.0; takes = h.1 }
 
 pub loop-turn-preserved : goal.loop-turn-preserved
@@ -76,25 +76,25 @@ loop-turn-preserved g c =
     let d = c.args.amount in
     let ls = c.args.labels.now in
     let n = t.junctions in
-    let k = c.loop-turn.-turn in
+    let k = c.loop-turn._turn in
     let s = c.in-Some.step in
     let inside : c.loop-turn.at < length c.args.labels.now = omega (arith, c.loop-turn.invariant.0, c.requires.places) in
     let h = step_takes t now ls k c.loop-turn.at d c.index-labels-at.result s c.loop-turn-test.true inside c.index-labels-at.is c.in-Some.is c.loop-turn.invariant.1 c.loop-turn.invariant.2 c.loop-turn.invariant.3 in
     let more = turn_more w ls n k c.loop-turn.at c.index-labels-at.result c.loop-turn-test.true inside c.index-labels-at.is s c.in-Some.is in
     let all = subst (λ (ss : List Step). All (Takes w f d) ss) more c.loop-turn.invariant.3 in
     let once = subst Once more c.loop-turn.invariant.4 in
-    let e : c.tail-of-at.result ≡ tail (network_of c.args.table.now) c.in-Some.step =
-    c.tail-of-at.ensures ∙ tail_read now s h.0 _ refl ∙ ap (λ (v : Network). tail v s) c.loop-turn.invariant.1 in
-    let below : c.tail-of-at.result < c.loop-turn.table.junctions = subst (λ (x : ℕ). x < now.junctions) (sym c.tail-of-at.ensures) (ends_read now s.direction s.pipe h.0).0 in
+    let e : c.tail_of-at.result ≡ tail (network_of c.args.table.now) c.in-Some.step =
+    c.tail_of-at.ensures ∙ tail_read now s h.0 _ refl ∙ ap (λ (v : Network). tail v s) c.loop-turn.invariant.1 in
+    let below : c.tail_of-at.result < c.loop-turn.table.junctions = subst (λ (x : ℕ). x < now.junctions) (sym c.tail_of-at.ensures) (ends_read now s.direction s.pipe h.0).0 in
     let left = spelled w (via_at ls) (n - (k + 1)) (tail w s) in (
       omega (arith, ap (λ (v : Network). v.junctions) c.loop-turn.invariant.1),
-      c.push-step.ensures.same ∙ c.loop-turn.invariant.1,
-      c.push-step.ensures.count ∙ c.loop-turn.invariant.2,
-      subst (λ (x : ℕ). All (Takes w (flow_of c.push-step.new.table) d) (spelled w (via_at ls) (n - (k + 1)) x)) (sym e)
-          (subst (λ (y : List ℕ). All (Takes w y d) left) (sym c.push-step.ensures.flow) (takes_others w f d s left once.0 all.1)),
+      c.push_step.ensures.same ∙ c.loop-turn.invariant.1,
+      c.push_step.ensures.count ∙ c.loop-turn.invariant.2,
+      subst (λ (x : ℕ). All (Takes w (flow_of c.push_step.new.table) d) (spelled w (via_at ls) (n - (k + 1)) x)) (sym e)
+          (subst (λ (y : List ℕ). All (Takes w y d) left) (sym c.push_step.ensures.flow) (takes_others w f d s left once.0 all.1)),
       subst (λ (x : ℕ). Once (spelled w (via_at ls) (n - (k + 1)) x)) (sym e) once.1,
-      ap (λ (x : ℕ). pushed (flow_of c.push-step.new.table) d (spelled w (via_at ls) (n - (k + 1)) x)) e
-          ∙ ap (λ (y : List ℕ). pushed y d left) c.push-step.ensures.flow
+      ap (λ (x : ℕ). pushed (flow_of c.push_step.new.table) d (spelled w (via_at ls) (n - (k + 1)) x)) e
+          ∙ ap (λ (y : List ℕ). pushed y d left) c.push_step.ensures.flow
           ∙ sym (ap (pushed f d) more)
           ∙ c.loop-turn.invariant.5,
     )
@@ -102,7 +102,7 @@ loop-turn-preserved g c =
 pub returns : goal.returns
 returns g c =
     let t = c.args.table.now in
-    let none = spelled_none (network_of t) (via_at c.args.labels.now) t.junctions c.loop-turn.-turn c.loop-turn.at c.loop-turn-test.false in
+    let none = spelled_none (network_of t) (via_at c.args.labels.now) t.junctions c.loop-turn._turn c.loop-turn.at c.loop-turn-test.false in
     record {
       same = c.loop-turn.invariant.1;
       count = c.loop-turn.invariant.2;

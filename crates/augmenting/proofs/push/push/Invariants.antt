@@ -9,7 +9,7 @@ use Rattle.augmenting.proofs.push.push.Given as goal
 abbrev pub invariant-loop-turn : goal.invariant-loop-turn
 invariant-loop-turn g l =
     let w = network_of l.initial.table in
-    let left = spelled w (via_at l.labels) (l.initial.table.junctions - l.-turn) l.at in
+    let left = spelled w (via_at l.labels) (l.initial.table.junctions - l._turn) l.at in
     (l.at < l.initial.table.junctions)
     × (network_of l.table ≡ w)
     × (l.table.count ≡ l.initial.table.count)

@@ -14,8 +14,8 @@ moved-flow-requires c =
     let h = c.requires.takes in
     record { limited = limited_read t k c.requires.inside; sound = sound_read t k c.requires.inside; takes = omega arith }
 
-pub change-row-requires : goal.change-row-requires
-change-row-requires c =
+pub change_row-requires : goal.change_row-requires
+change_row-requires c =
     let t = c.args.table.now in
     let l = limited_read t c.args.step.pipe c.requires.inside in
     record { inside = c.requires.inside; some = l.0; few = l.1; within = c.moved-flow.ensures.within }
@@ -25,8 +25,8 @@ returns c =
     let t = c.args.table.now in
     let k = c.args.step.pipe in
     record {
-      same = c.change-row.ensures.network ∙ own_row t k c.requires.inside _ _ refl refl;
-      count = c.change-row.ensures.count;
-      flow = c.change-row.ensures.flow
+      same = c.change_row.ensures.network ∙ own_row t k c.requires.inside _ _ refl refl;
+      count = c.change_row.ensures.count;
+      flow = c.change_row.ensures.flow
           ∙ ap (set (flow_of t) k) (c.moved-flow.ensures.is ∙ ap (λ (y : ℕ). moved c.args.step.direction y c.args.amount) (sym (carried_is t k c.requires.inside)));
     }

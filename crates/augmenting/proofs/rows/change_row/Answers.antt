@@ -3,8 +3,8 @@ use Rattle.network.specs.Network.{Pipe}
 use Rattle.augmenting.proofs.ChangedRows.{joined_after, limited_after, flowing_after, pipes_after, flows_after}
 use Rattle.augmenting.proofs.rows.change_row.Goals as goal
 
-pub invariant-of-table : goal.invariant-of-table
-invariant-of-table c =
+pub invariant_of-table : goal.invariant_of-table
+invariant_of-table c =
     let t = c.args.table.now in
     let k = c.args.k in
     let l = c.args.limit in
@@ -13,7 +13,18 @@ invariant-of-table c =
     let joined = joined_after t k c.requires.inside l v x in
     let limited = limited_after t k c.requires.inside l v x c.requires.some c.requires.few in
     let flowing = flowing_after t k c.requires.inside l v x c.requires.within in
-    (t.two, (t.most, (t.pumped, (t.drained, (t.apart, (length-set t.rows k _ ∙ t.long, (t.held, (joined, (limited, (flowing, tt))))))))))
+    record {
+      two = t.two;
+      most = t.most;
+      pumped = t.pumped;
+      drained = t.drained;
+      apart = t.apart;
+      long = length-set t.rows k _ ∙ t.long;
+      held = t.held;
+      joined = joined;
+      limited = limited;
+      flowing = flowing;
+    }
 
 pub returns : goal.returns
 returns c =

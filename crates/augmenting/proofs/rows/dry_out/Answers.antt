@@ -9,8 +9,8 @@ use Rattle.augmenting.proofs.Pushes.{limited_read}
 use Rattle.augmenting.proofs.Valves.{same_count, all_dry}
 use Rattle.augmenting.proofs.rows.dry_out.Goals as goal
 
-pub change-row-requires : goal.change-row-requires
-change-row-requires c =
+pub change_row-requires : goal.change_row-requires
+change_row-requires c =
     let inside : c.loop-k.k < c.loop-k.table.count = omega (arith, same_count c.loop-k.table c.args.table.now c.loop-k.invariant.0) in
     let l = limited_read c.loop-k.table c.loop-k.k inside in
     record { inside = inside; some = l.0; few = l.1; within = omega arith }
@@ -21,8 +21,8 @@ loop-k-preserved c =
     let k = c.loop-k.k in
     let inside : c.loop-k.k < c.loop-k.table.count = omega (arith, same_count c.loop-k.table c.args.table.now c.loop-k.invariant.0) in
     let here : c.loop-k.k < length (flow_of c.loop-k.table) = omega (arith, (table_within c.loop-k.table).each, table_size c.loop-k.table) in (
-      c.change-row.ensures.network ∙ own_row t k inside _ _ refl refl ∙ c.loop-k.invariant.0,
-      λ i h. ap (λ (f : List ℕ). carried f i) c.change-row.ensures.flow ∙ elim (cases_eq i c.loop-k.k) [
+      c.change_row.ensures.network ∙ own_row t k inside _ _ refl refl ∙ c.loop-k.invariant.0,
+      λ i h. ap (λ (f : List ℕ). carried f i) c.change_row.ensures.flow ∙ elim (cases_eq i c.loop-k.k) [
         | inl e ↦ rw e (get_or-set_same (flow_of c.loop-k.table) c.loop-k.k 0 0 here)
         | inr n ↦ get_or-set_other (flow_of t) k i 0 0 n ∙ c.loop-k.invariant.1 i (omega arith)
       ],

@@ -14,8 +14,8 @@ use Rattle.augmenting.proofs.Pushes.{limited_read}
 use Rattle.augmenting.proofs.Valves.{passes, next_pipe_in, next_set, set_count}
 use Rattle.augmenting.proofs.rows.set_valves.Goals as goal
 
-pub change-row-requires : goal.change-row-requires
-change-row-requires c =
+pub change_row-requires : goal.change_row-requires
+change_row-requires c =
     let t = c.loop-k.table in
     let k = c.loop-k.k in
     let inside : c.loop-k.k < c.loop-k.table.count = omega (arith, set_count c.loop-k.table c.args.table.now (take c.loop-k.k c.args.letters.now) c.loop-k.invariant.0) in
@@ -25,7 +25,7 @@ change-row-requires c =
       inside = inside;
       some = l.0;
       few = l.1;
-      within = subst (λ (v : Valve). row.flow ≤ room v row.limit) (sym c.set-valve.ensures)
+      within = subst (λ (v : Valve). row.flow ≤ room v row.limit) (sym c.set_valve.ensures)
           (passes (setting_of (get_or c.args.letters.now k 0)) row.valve row.limit row.flow (sound_read t k inside)
           (λ e. sym (carried_is t k inside) ∙ ap (λ (f : List ℕ). carried f k) c.loop-k.invariant.1 ∙ c.requires.dry k e));
     }
@@ -41,9 +41,9 @@ loop-k-preserved c =
     let piped : c.loop-k.k < size (network_of c.args.table.now) = omega (arith, table_size c.args.table.now) in
     let same : pipe_of (get_or c.loop-k.table.rows c.loop-k.k read_row) ≡ pipe (network_of c.args.table.now) c.loop-k.k =
     sym (pipe_is t k inside) ∙ ap (λ (u : Network). pipe u k) c.loop-k.invariant.0 ∙ next_pipe_in w bs k lettered piped in (
-      c.change-row.ensures.network
-          ∙ next_set w bs k lettered piped (network_of t) c.loop-k.invariant.0 _ c.set-valve.result (ap (λ (p : Pipe). p.limit) same) (c.set-valve.ensures ∙ ap (λ (p : Pipe). valve_by (setting_of (get_or bs k 0)) p.valve) same),
-      c.change-row.ensures.flow ∙ ap (set (flow_of t) k) (sym (carried_is t k inside)) ∙ set-get_or (flow_of t) k 0 ∙ c.loop-k.invariant.1,
+      c.change_row.ensures.network
+          ∙ next_set w bs k lettered piped (network_of t) c.loop-k.invariant.0 _ c.set_valve.result (ap (λ (p : Pipe). p.limit) same) (c.set_valve.ensures ∙ ap (λ (p : Pipe). valve_by (setting_of (get_or bs k 0)) p.valve) same),
+      c.change_row.ensures.flow ∙ ap (set (flow_of t) k) (sym (carried_is t k inside)) ∙ set-get_or (flow_of t) k 0 ∙ c.loop-k.invariant.1,
     )
 
 pub returns : goal.returns

@@ -6,29 +6,29 @@ use Rattle.augmenting.proofs.Closures.{ends_in, spread_none, crosses, stays_ligh
 use Rattle.augmenting.proofs.survey.cross.Goals as goal
 use Rattle.augmenting.proofs.survey.cross.Goals.{else-weight-gt0-via-then-weight-gt0+else-holds, else-weight-gt0-via-else-weight-gt0}
 
-pub weight-of-weight-requires : goal.weight-of-weight-requires
-weight-of-weight-requires c = sound_read c.args.table.now c.args.step.pipe c.requires
+pub weight_of-weight-requires : goal.weight_of-weight-requires
+weight_of-weight-requires c = sound_read c.args.table.now c.args.step.pipe c.requires
 
 pub holds-requires : goal.holds-requires
 holds-requires c =
     let e = ends_in c.args.table.now c.args.sense c.args.step c.requires in
     let m = c.args.table.now.most in
-    omega (arith, e.0, c.ends-of-near.ensures.near)
+    omega (arith, e.0, c.ends_of-near.ensures.near)
 
-pub overflow-shl-result : goal.overflow-shl-result
-overflow-shl-result c =
+pub overflow_shl-result : goal.overflow_shl-result
+overflow_shl-result c =
     let e = ends_in c.args.table.now c.args.sense c.args.step c.requires in
     let m = c.args.table.now.most in
-    omega (arith, e.1, c.ends-of-near.ensures.far)
+    omega (arith, e.1, c.ends_of-near.ensures.far)
 
 pub returns-then-holds : goal.returns-then-holds
 returns-then-holds c =
     let t = c.args.table.now in
     let e = ends_in t c.args.sense c.args.step c.requires in
     let m = t.most in
-    let l : c.ends-of-near.result.1 < 64 = omega (arith, e.1, c.ends-of-near.ensures.far) in
-    let r = crosses t c.args.sense c.args.step c.requires c.args.seen c.ends-of-near.result.0 c.weight-of-weight.result c.ends-of-near.ensures.near c.weight-of-weight.ensures
-    c.ends-of-near.result.1 _ c.ends-of-near.ensures.far (one_shl c.ends-of-near.result.1 64 l) c.if-weight-gt0.true (sym c.if-holds.ensures) in
+    let l : c.ends_of-near.result.1 < 64 = omega (arith, e.1, c.ends_of-near.ensures.far) in
+    let r = crosses t c.args.sense c.args.step c.requires c.args.seen c.ends_of-near.result.0 c.weight_of-weight.result c.ends_of-near.ensures.near c.weight_of-weight.ensures
+    c.ends_of-near.result.1 _ c.ends_of-near.ensures.far (one_shl c.ends_of-near.result.1 64 l) c.if-weight-gt0.true (sym c.if-holds.ensures) in
     record { spread = r.0; crossed = r.1 }
 
 pub returns-else-weight-gt0 : goal.returns-else-weight-gt0
@@ -37,7 +37,7 @@ returns-else-weight-gt0 c =
     record {
       spread = spread_none c.args.sense (network_of t) (flow_of t) c.args.seen;
       crossed = elim c.else-weight-gt0.branch [
-        | else-weight-gt0-via-then-weight-gt0+else-holds w ↦ stays_out t c.args.sense c.args.step c.requires c.args.seen c.ends-of-near.result.0 c.weight-of-weight.result c.ends-of-near.ensures.near c.weight-of-weight.ensures (sym w.holds.ensures ∙ w.if-holds.false)
-        | else-weight-gt0-via-else-weight-gt0 w ↦ stays_light t c.args.sense c.args.step c.requires c.args.seen c.ends-of-near.result.0 c.weight-of-weight.result c.ends-of-near.ensures.near c.weight-of-weight.ensures w.if-weight-gt0.false
+        | else-weight-gt0-via-then-weight-gt0+else-holds w ↦ stays_out t c.args.sense c.args.step c.requires c.args.seen c.ends_of-near.result.0 c.weight_of-weight.result c.ends_of-near.ensures.near c.weight_of-weight.ensures (sym w.holds.ensures ∙ w.if-holds.false)
+        | else-weight-gt0-via-else-weight-gt0 w ↦ stays_light t c.args.sense c.args.step c.requires c.args.seen c.ends_of-near.result.0 c.weight_of-weight.result c.ends_of-near.ensures.near c.weight_of-weight.ensures w.if-weight-gt0.false
       ];
     }

@@ -7,10 +7,10 @@ use Rattle.augmenting.specs.Surveys.{passing_below}
 use Rattle.augmenting.proofs.Passing.{passing_more, passing_few}
 use Rattle.augmenting.proofs.Tables.{flow_few}
 use Rattle.augmenting.proofs.survey.passing_at.Goals as goal
-use Rattle.augmenting.proofs.survey.passing_at.Goals.{then-tail-of-junction, else-tail-of-junction}
+use Rattle.augmenting.proofs.survey.passing_at.Goals.{then-tail_of-junction, else-tail_of-junction}
 
-pub overflow-add-sum : goal.overflow-add-sum
-overflow-add-sum c =
+pub overflow_add-sum : goal.overflow_add-sum
+overflow_add-sum c =
     let t = c.args.table.now in
     let few = passing_few t c.args.sense c.args.junction c.loop-k.k (omega arith) in
     let here = flow_few t c.loop-k.k c.loop-k-test.true in
@@ -22,9 +22,9 @@ loop-k-preserved c =
     let t = c.args.table.now in
     let x = (get_or t.rows c.loop-k.k read_row).flow in
     let more = passing_more t c.args.sense c.args.junction c.loop-k.k c.loop-k-test.true in
-    elim c.if-tail-of-junction.branch [
-      | then-tail-of-junction w ↦ omega (arith, w.sum-is, more, ap (λ b. only b x) (eq-eqb _ _ (sym c.tail-of.ensures ∙ w.if-tail-of-junction.true)))
-      | else-tail-of-junction w ↦ omega (arith, w.sum-is, more, ap (λ b. only b x) (ne_eqb _ _ (λ e. w.if-tail-of-junction.false (c.tail-of.ensures ∙ e))))
+    elim c.if-tail_of-junction.branch [
+      | then-tail_of-junction w ↦ omega (arith, w.sum-is, more, ap (λ b. only b x) (eq-eqb _ _ (sym c.tail_of.ensures ∙ w.if-tail_of-junction.true)))
+      | else-tail_of-junction w ↦ omega (arith, w.sum-is, more, ap (λ b. only b x) (ne_eqb _ _ (λ e. w.if-tail_of-junction.false (c.tail_of.ensures ∙ e))))
     ]
 
 pub returns : goal.returns

@@ -11,9 +11,9 @@ returns c =
     let t = c.args.table.now in
     let w = network_of t in
     let f = flow_of t in
-    let far = c.all-junctions.result - c.reached-reaching.result in
+    let far = c.all_junctions.result - c.reached-reaching.result in
     let reached : Reached w f t.pump c.reached.result = closure_reached w f t.pump c.reached.result c.reached.ensures in
-    let apart : Apart w f t.outlet far = subst (λ (x : ℕ). Apart w f t.outlet (x - c.reached-reaching.result)) (sym c.all-junctions.ensures) (closure_apart w f t.outlet c.reached-reaching.result c.reached-reaching.ensures) in
+    let apart : Apart w f t.outlet far = subst (λ (x : ℕ). Apart w f t.outlet (x - c.reached-reaching.result)) (sym c.all_junctions.ensures) (closure_apart w f t.outlet c.reached-reaching.result c.reached-reaching.ensures) in
     record {
       value = c.value.ensures;
       near = reached;
