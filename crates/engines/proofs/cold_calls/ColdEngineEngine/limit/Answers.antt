@@ -9,28 +9,28 @@ use Rattle.interface.specs.Verdicts.{change}
 use Rattle.engines.proofs.Working.{to_limit}
 use Rattle.engines.proofs.cold_calls.ColdEngineEngine.limit.Goals as goal
 
-pub returns-in-err-old : goal.returns-in-err-old
-returns-in-err-old g c =
-    let p = err_from_is_err_and c.from-residual.result c.from-residual.ensures.1 in
-    rw (p.1, p.2) (c.in-err-old.ensures, refl, refl)
+pub returns-in_err-old : goal.returns-in_err-old
+returns-in_err-old g c =
+    let p = err_from_is_err_and c.from_residual.result c.from_residual.ensures.1 in
+    rw (p.1, p.2) (c.in_err-old.ensures, refl, refl)
 
-pub change-row-requires : goal.change-row-requires
-change-row-requires g c =
+pub change_row-requires : goal.change_row-requires
+change_row-requires g c =
     let t = c.args.self.now.settled.table in
-    let got = c.in-ok-old.ensures in
+    let got = c.in_ok-old.ensures in
     record { inside = got.2.inside; some = got.3; few = got.4; within = omega arith }
 
 pub restart-requires : goal.restart-requires
-restart-requires g c = let got = c.in-ok-old.ensures in let few = c.change-row.new.table.most in record { places = omega (arith, got.1) }
+restart-requires g c = let got = c.in_ok-old.ensures in let few = c.change_row.new.table.most in record { places = omega (arith, got.1) }
 
 pub returns : goal.returns
 returns g c =
     let m = g.M.PathMetric in
     let t = c.args.self.now.settled.table in
-    let u = c.change-row.new.table in
+    let u = c.change_row.new.table in
     let exit = c.restart.new.self.settled.table in
-    let got = c.in-ok-old.ensures in
-    let becomes : network_of u ≡ changes.limiting (network_of t) c.args.pipe c.args.limit = c.change-row.ensures.network ∙ to_limit t c.args.pipe c.in-ok-old.old got.2 c.args.limit in (
+    let got = c.in_ok-old.ensures in
+    let becomes : network_of u ≡ changes.limiting (network_of t) c.args.pipe c.args.limit = c.change_row.ensures.network ∙ to_limit t c.args.pipe c.in_ok-old.old got.2 c.args.limit in (
       got.0 ∙ ap (λ (w : Network). Ok w) (sym (c.restart.ensures.same ∙ becomes)),
       c.restart.ensures.change ∙ ap (change (network_of t)) (sym c.restart.ensures.same),
       subst (λ (w : Network). Fills w m.good m.start m.extended (dry w) c.restart.result.1 (flow_of exit)) becomes c.restart.ensures.count,

@@ -6,20 +6,20 @@ use Rattle.network.specs.Pipes.{flow_of}
 use Rattle.interface.specs.Augmentations.{Fills}
 use Rattle.engines.proofs.cold_calls.ColdEngineEngine.load.Goals as goal
 
-pub returns-in-err-table : goal.returns-in-err-table
-returns-in-err-table g c =
-    let p = err_from_is_err_and c.from-residual.result c.from-residual.ensures.1 in
-    rw (p.1, p.2) (c.in-err-table.ensures, refl, refl)
+pub returns-in_err-table : goal.returns-in_err-table
+returns-in_err-table g c =
+    let p = err_from_is_err_and c.from_residual.result c.from_residual.ensures.1 in
+    rw (p.1, p.2) (c.in_err-table.ensures, refl, refl)
 
 pub restart-requires : goal.restart-requires
-restart-requires g c = let got = c.in-ok-table.ensures in let few = c.in-ok-table.table.most in record { places = omega (arith, got.1) }
+restart-requires g c = let got = c.in_ok-table.ensures in let few = c.in_ok-table.table.most in record { places = omega (arith, got.1) }
 
 pub returns : goal.returns
 returns g c =
     let m = g.M.PathMetric in
     let exit = c.restart.new.self.settled.table in
-    let got = c.in-ok-table.ensures in
+    let got = c.in_ok-table.ensures in
     let same = c.restart.ensures.same in (
-      got.0 ∙ ap (λ (w : Network). Ok (w, c.in-ok-table.taken)) (sym same),
+      got.0 ∙ ap (λ (w : Network). Ok (w, c.in_ok-table.taken)) (sym same),
       (c.restart.result.1, subst (λ (w : Network). Fills w m.good m.start m.extended (dry w) c.restart.result.1 (flow_of exit)) (sym same) c.restart.ensures.count),
     )

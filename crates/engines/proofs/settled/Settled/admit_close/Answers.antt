@@ -5,23 +5,23 @@ use Rattle.network.proofs.TableFacts.{table_size}
 use Rattle.engines.proofs.Calling.{close_none, close_missed, close_done}
 use Rattle.engines.proofs.settled.Settled.admit_close.Goals as goal
 
-pub returns-in-default : goal.returns-in-default
-returns-in-default c =
+pub returns-in_default : goal.returns-in_default
+returns-in_default c =
     let t = c.args.self.now.table in
-    let h = c.in-default.ensures in close_none 64 _ c.if-places-lt-MOST-JUNCTIONS.false (network_of t) c.args.pipe (omega (arith, table_size t))
+    let h = c.in_default.ensures in close_none 64 _ c.if-places-lt-MOST_JUNCTIONS.false (network_of t) c.args.pipe (omega (arith, table_size t))
 
 pub returns-in-Closed : goal.returns-in-Closed
 returns-in-Closed c =
     let t = c.args.self.now.table in
     let got = c.in-Some.ensures in
-    close_missed 64 _ c.if-places-lt-MOST-JUNCTIONS.false (network_of t) c.args.pipe (omega (arith, table_size t, got.0)) (sym (ap (λ (p : Pipe). p.valve) got.1) ∙ c.in-Closed.is)
+    close_missed 64 _ c.if-places-lt-MOST_JUNCTIONS.false (network_of t) c.args.pipe (omega (arith, table_size t, got.0)) (sym (ap (λ (p : Pipe). p.valve) got.1) ∙ c.in-Closed.is)
 
 pub returns-in-Open : goal.returns-in-Open
 returns-in-Open c =
     let t = c.args.self.now.table in
     let got = c.in-Some.ensures in (
-      close_done 64 _ c.if-places-lt-MOST-JUNCTIONS.false (network_of t) c.args.pipe (omega (arith, table_size t, got.0)) (sym (ap (λ (p : Pipe). p.valve) got.1) ∙ c.in-Open.is),
-      c.if-places-lt-MOST-JUNCTIONS.false,
+      close_done 64 _ c.if-places-lt-MOST_JUNCTIONS.false (network_of t) c.args.pipe (omega (arith, table_size t, got.0)) (sym (ap (λ (p : Pipe). p.valve) got.1) ∙ c.in-Open.is),
+      c.if-places-lt-MOST_JUNCTIONS.false,
       record { inside = got.0; pipe_is = got.1; flow_is = got.2 },
       c.in-Open.is,
     )

@@ -2,6 +2,6 @@ use Rattle.std.proofs.Common.{refl}
 use Rattle.network.specs.Reports.{least_capacity, report_of}
 use Rattle.engines.proofs.settled.Settled.bare.Goals as goal
 
-pub invariant-of-result : goal.invariant-of-result
+pub invariant_of-result : goal.invariant_of-result
 unfolding least_capacity report_of
-invariant-of-result c = (λ j i. refl, (refl, (refl, (refl, (refl, tt)))))
+invariant_of-result c = record { balanced = λ j i. refl; valued = refl; value = refl; near = refl; far = refl }

@@ -6,17 +6,17 @@ use Rattle.network.proofs.TableFacts.{table_wired}
 use Rattle.engines.specs.Settling.{balance, full_forth}
 use Rattle.engines.proofs.settled.Settled.from_table.Goals as goal
 
-pub invariant-of-result : goal.invariant-of-result
-invariant-of-result c =
+pub invariant_of-result : goal.invariant_of-result
+invariant_of-result c =
     let t = c.args.table in
     let w = network_of t in
     let f = flow_of t in
     let flow = c.requires.flow in
     let none = no_path w (table_wired t) f c.requires in
-    let is = c.report-report.ensures.whole flow none in (
-      balance w f flow,
-      (
-        full_forth w (table_wired t) f flow none _ c.report-report.ensures.value,
-        (ap (λ (r : Report). r.value) is, (ap (λ (r : Report). r.near) is, (ap (λ (r : Report). r.far) is, tt))),
-      ),
-    )
+    let is = c.report-report.ensures.whole flow none in record {
+      balanced = balance w f flow;
+      valued = full_forth w (table_wired t) f flow none _ c.report-report.ensures.value;
+      value = ap (λ (r : Report). r.value) is;
+      near = ap (λ (r : Report). r.near) is;
+      far = ap (λ (r : Report). r.far) is;
+    }

@@ -15,16 +15,16 @@ use Rattle.engines.specs.Kept.{kept_greatest}
 use Rattle.engines.proofs.Working.{limit_fits, to_valve}
 use Rattle.engines.proofs.warm_calls.WarmEngineEngine.close.Goals as goal
 
-pub returns-in-err-old : goal.returns-in-err-old
-returns-in-err-old g c =
-    let p = err_from_is_err_and c.from-residual.result c.from-residual.ensures.1 in
-    rw (p.1, p.2) (c.in-err-old.ensures, refl, refl)
+pub returns-in_err-old : goal.returns-in_err-old
+returns-in_err-old g c =
+    let p = err_from_is_err_and c.from_residual.result c.from_residual.ensures.1 in
+    rw (p.1, p.2) (c.in_err-old.ensures, refl, refl)
 
 pub lower-count-requires : goal.lower-count-requires
 lower-count-requires g c =
     let t = c.args.self.now.settled.table in
-    let got = c.in-ok-old.ensures in
-    let l = limit_fits t c.args.pipe c.in-ok-old.old got.2 in
+    let got = c.in_ok-old.ensures in
+    let l = limit_fits t c.args.pipe c.in_ok-old.old got.2 in
     let few = c.args.self.now.settled.table.most in
     record {
       inside = got.2.inside;
@@ -44,11 +44,11 @@ returns g c =
     let w = network_of t in
     let k = c.args.pipe in
     let u = c.lower-count.new.table in
-    let got = c.in-ok-old.ensures in
+    let got = c.in_ok-old.ensures in
     let f : SFits w64 c.replace.result = search rules in
     let same : network_of c.replace.new.self.table ≡ network_of u = ap network_of c.replace.ensures.same in (
-      got.0 ∙ ap (λ (w : Network). Ok w) (sym (same ∙ c.lower-count.ensures.network ∙ to_valve t k c.in-ok-old.old got.2 Closed)),
+      got.0 ∙ ap (λ (w : Network). Ok w) (sym (same ∙ c.lower-count.ensures.network ∙ to_valve t k c.in_ok-old.old got.2 Closed)),
       to_z-of_z w64 c.replace.result f ∙ c.replace.ensures.change ∙ ap (change w) (sym same),
       subst (λ (l : ℕ). Lowers m.good m.start m.extended w (flow_of t) k (with_valve (with_limit (pipe w k) l) Closed) 0 c.lower-count.result (flow_of c.replace.new.self.table)) (ap (λ (p : network.Pipe). p.limit) got.2.pipe_is)
-          (subst (λ (x : Table). Lowers m.good m.start m.extended w (flow_of t) k (with_valve (with_limit (pipe w k) c.in-ok-old.old.limit) Closed) 0 c.lower-count.result (flow_of x)) (sym c.replace.ensures.same) c.lower-count.ensures.lowers),
+          (subst (λ (x : Table). Lowers m.good m.start m.extended w (flow_of t) k (with_valve (with_limit (pipe w k) c.in_ok-old.old.limit) Closed) 0 c.lower-count.result (flow_of x)) (sym c.replace.ensures.same) c.lower-count.ensures.lowers),
     )

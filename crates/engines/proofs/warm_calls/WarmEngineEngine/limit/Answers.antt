@@ -15,16 +15,16 @@ use Rattle.engines.specs.Kept.{kept_greatest}
 use Rattle.engines.proofs.Working.{keeps_most, lets_less, keeps_all, to_limit, own_flow, fillable_as, fillable_with}
 use Rattle.engines.proofs.warm_calls.WarmEngineEngine.limit.Goals as goal
 
-pub returns-in-err-old : goal.returns-in-err-old
-returns-in-err-old g c =
-    let p = err_from_is_err_and c.from-residual.result c.from-residual.ensures.1 in
-    rw (p.1, p.2) (c.in-err-old.ensures, refl, refl)
+pub returns-in_err-old : goal.returns-in_err-old
+returns-in_err-old g c =
+    let p = err_from_is_err_and c.from_residual.result c.from_residual.ensures.1 in
+    rw (p.1, p.2) (c.in_err-old.ensures, refl, refl)
 
 pub lower-count-requires : goal.lower-count-requires
 lower-count-requires g c =
-    let old = c.in-ok-old.old in
+    let old = c.in_ok-old.old in
     let l = c.args.limit in
-    let got = c.in-ok-old.ensures in
+    let got = c.in_ok-old.ensures in
     let few = c.args.self.now.settled.table.most in
     record {
       inside = got.2.inside;
@@ -37,21 +37,21 @@ lower-count-requires g c =
       greatest = kept_greatest c.args.self.now.settled;
     }
 
-pub change-row-requires : goal.change-row-requires
-change-row-requires g c =
-    let old = c.in-ok-old.old in
-    let got = c.in-ok-old.ensures in
+pub change_row-requires : goal.change_row-requires
+change_row-requires g c =
+    let old = c.in_ok-old.old in
+    let got = c.in_ok-old.ensures in
     record { inside = got.2.inside; some = got.3; few = got.4; within = keeps_all old.valve old.limit old.flow c.args.limit old.within c.if-limit-old.false }
 
 pub refill-requires : goal.refill-requires
 refill-requires g c =
     let t = c.args.self.now.settled.table in
-    let u = c.change-row.new.table in
+    let u = c.change_row.new.table in
     let k = c.args.pipe in
-    let old = c.in-ok-old.old in
-    let got = c.in-ok-old.ensures in
-    let few = c.change-row.new.table.most in
-    let h = fillable_as (network_of u) _ (flow_of u) (flow_of t) c.change-row.ensures.network (c.change-row.ensures.flow ∙ own_flow t k old got.2)
+    let old = c.in_ok-old.old in
+    let got = c.in_ok-old.ensures in
+    let few = c.change_row.new.table.most in
+    let h = fillable_as (network_of u) _ (flow_of u) (flow_of t) c.change_row.ensures.network (c.change_row.ensures.flow ∙ own_flow t k old got.2)
     (fillable_with t k old got.2 (kept_greatest c.args.self.now.settled) c.args.limit old.valve (keeps_all old.valve old.limit old.flow c.args.limit old.within c.if-limit-old.false)) in
     record { places = omega (arith, got.1); flow = h.flow; forth = h.forth }
 
@@ -63,8 +63,8 @@ returns-then-limit-old g c =
     let k = c.args.pipe in
     let l = c.args.limit in
     let u = c.lower-count.new.table in
-    let old = c.in-ok-old.old in
-    let got = c.in-ok-old.ensures in
+    let old = c.in_ok-old.old in
+    let got = c.in_ok-old.ensures in
     let f : SFits w64 c.replace.result = search rules in
     let same : network_of c.replace.new.self.table ≡ network_of u = ap network_of c.replace.ensures.same in (
       got.0 ∙ ap (λ (w : Network). Ok w) (sym (same ∙ c.lower-count.ensures.network ∙ to_limit t k old got.2 l)),
@@ -82,16 +82,16 @@ returns-else-limit-old g c =
     let t = c.args.self.now.settled.table in
     let k = c.args.pipe in
     let l = c.args.limit in
-    let u = c.change-row.new.table in
+    let u = c.change_row.new.table in
     let exit = c.refill.new.self.table in
-    let old = c.in-ok-old.old in
-    let got = c.in-ok-old.ensures in
-    let becomes : network_of u ≡ limiting (network_of t) k l = c.change-row.ensures.network ∙ to_limit t k old got.2 l in (
+    let old = c.in_ok-old.old in
+    let got = c.in_ok-old.ensures in
+    let becomes : network_of u ≡ limiting (network_of t) k l = c.change_row.ensures.network ∙ to_limit t k old got.2 l in (
       got.0 ∙ ap (λ (w : Network). Ok w) (sym (c.refill.ensures.same ∙ becomes)),
       c.refill.ensures.change ∙ ap (change (network_of t)) (sym c.refill.ensures.same),
       (
         λ less. absurd (omega (arith, less, got.2.flow_is, c.if-limit-old.false)),
-        λ more. subst (λ (f : List ℕ). Fills (limiting (network_of t) k l) m.good m.start m.extended f c.refill.result.1 (flow_of exit)) (c.change-row.ensures.flow ∙ own_flow t k old got.2)
+        λ more. subst (λ (f : List ℕ). Fills (limiting (network_of t) k l) m.good m.start m.extended f c.refill.result.1 (flow_of exit)) (c.change_row.ensures.flow ∙ own_flow t k old got.2)
             (subst (λ (w : Network). Fills w m.good m.start m.extended (flow_of u) c.refill.result.1 (flow_of exit)) becomes c.refill.ensures.count),
       ),
     )

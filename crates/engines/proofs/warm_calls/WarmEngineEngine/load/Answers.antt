@@ -8,27 +8,27 @@ use Rattle.interface.specs.Augmentations.{Fills}
 use Rattle.engines.proofs.Working.{fillable_as, fillable_dry}
 use Rattle.engines.proofs.warm_calls.WarmEngineEngine.load.Goals as goal
 
-pub returns-in-err-table : goal.returns-in-err-table
-returns-in-err-table g c =
-    let p = err_from_is_err_and c.from-residual.result c.from-residual.ensures.1 in
-    rw (p.1, p.2) (c.in-err-table.ensures, refl, refl)
+pub returns-in_err-table : goal.returns-in_err-table
+returns-in_err-table g c =
+    let p = err_from_is_err_and c.from_residual.result c.from_residual.ensures.1 in
+    rw (p.1, p.2) (c.in_err-table.ensures, refl, refl)
 
 pub refill-requires : goal.refill-requires
 refill-requires g c =
-    let got = c.in-ok-table.ensures in
-    let t = c.in-ok-table.table in
-    let few = c.in-ok-table.table.most in
+    let got = c.in_ok-table.ensures in
+    let t = c.in_ok-table.table in
+    let few = c.in_ok-table.table.most in
     let h = fillable_as (network_of t) (network_of t) (flow_of t) (dry (network_of t)) refl got.2 (fillable_dry (network_of t) (table_wired t)) in
     record { places = omega (arith, got.1); flow = h.flow; forth = h.forth }
 
 pub returns : goal.returns
 returns g c =
     let m = g.M.PathMetric in
-    let t = c.in-ok-table.table in
+    let t = c.in_ok-table.table in
     let exit = c.refill.new.self.table in
-    let got = c.in-ok-table.ensures in
+    let got = c.in_ok-table.ensures in
     let same = c.refill.ensures.same in (
-      got.0 ∙ ap (λ (w : Network). Ok (w, c.in-ok-table.taken)) (sym same),
+      got.0 ∙ ap (λ (w : Network). Ok (w, c.in_ok-table.taken)) (sym same),
       (
         c.refill.result.1,
         subst (λ (w : Network). Fills w m.good m.start m.extended (dry w) c.refill.result.1 (flow_of exit)) (sym same)
