@@ -75,28 +75,28 @@ returns-in-Ok-governing g c = at_request c.in-Governing.is (governs (sym c.in-Ok
 pub returns-in-Err-governing : goal.returns-in-Err-governing
 returns-in-Err-governing g c = at_request c.in-Governing.is (not_governs (sym c.in-Err-governing.ensures.answer))
 
-pub returns-in-Ok-write-sheet : goal.returns-in-Ok-write-sheet
-returns-in-Ok-write-sheet g c =
-    let e = c.in-Ok-write-sheet.ensures in
-    let n : length c.write-sheet.new.space ≡ c.in-ok-space.space.len = omega (arith, c.deref-mut.ensures.len) in
+pub returns-in-Ok-write_sheet : goal.returns-in-Ok-write_sheet
+returns-in-Ok-write_sheet g c =
+    let e = c.in-Ok-write_sheet.ensures in
+    let n : length c.write_sheet.new.space ≡ c.in_ok-space-in-WriteSheet.space.len = omega (arith, c.deref_mut.ensures.len) in
     at_request c.in-WriteSheet.is
-    (written _ _ _ c.in-WriteSheet.old c.deref-mut.result.now (c.deref-mut.ensures.value ∙ c.in-ok-space.ensures) _ _ c.write-sheet.new.space
-    (with_items_is c.in-ok-space.space c.write-sheet.new.space n) e.0 e.1)
+    (written _ _ _ c.in-WriteSheet.old c.deref_mut.result.now (c.deref_mut.ensures.value ∙ c.in_ok-space-in-WriteSheet.ensures) _ _ c.write_sheet.new.space
+    (with_items_is c.in_ok-space-in-WriteSheet.space c.write_sheet.new.space n) e.0 e.1)
 
-pub returns-in-Err-write-sheet : goal.returns-in-Err-write-sheet
-returns-in-Err-write-sheet g c =
-    let e = c.in-Err-write-sheet.ensures in
-    at_request c.in-WriteSheet.is (not_written _ _ _ c.in-WriteSheet.old c.deref-mut.result.now (c.deref-mut.ensures.value ∙ c.in-ok-space.ensures) _ e.0)
+pub returns-in-Err-write_sheet : goal.returns-in-Err-write_sheet
+returns-in-Err-write_sheet g c =
+    let e = c.in-Err-write_sheet.ensures in
+    at_request c.in-WriteSheet.is (not_written _ _ _ c.in-WriteSheet.old c.deref_mut.result.now (c.deref_mut.ensures.value ∙ c.in_ok-space-in-WriteSheet.ensures) _ e.0)
 
-pub returns-in-Ok-read-flow : goal.returns-in-Ok-read-flow
-returns-in-Ok-read-flow g c =
-    let e = c.in-Ok-read-flow.ensures in
-    let n : length c.read-flow.new.row ≡ c.in-ok-row.row.len = omega (arith, c.deref-mut-in-ReadFlow.ensures.len) in
+pub returns-in-Ok-read_flow : goal.returns-in-Ok-read_flow
+returns-in-Ok-read_flow g c =
+    let e = c.in-Ok-read_flow.ensures in
+    let n : length c.read_flow.new.row ≡ c.in_ok-row-in-ReadFlow.row.len = omega (arith, c.deref_mut-in-ReadFlow.ensures.len) in
     at_request c.in-ReadFlow.is
-    (read _ _ _ c.in-ReadFlow.old c.deref-mut-in-ReadFlow.result.now (c.deref-mut-in-ReadFlow.ensures.value ∙ c.in-ok-row.ensures) _ _ c.read-flow.new.row
-    (with_items_is c.in-ok-row.row c.read-flow.new.row n) e.0 e.1)
+    (read _ _ _ c.in-ReadFlow.old c.deref_mut-in-ReadFlow.result.now (c.deref_mut-in-ReadFlow.ensures.value ∙ c.in_ok-row-in-ReadFlow.ensures) _ _ c.read_flow.new.row
+    (with_items_is c.in_ok-row-in-ReadFlow.row c.read_flow.new.row n) e.0 e.1)
 
-pub returns-in-Err-read-flow : goal.returns-in-Err-read-flow
-returns-in-Err-read-flow g c =
-    let e = c.in-Err-read-flow.ensures in
-    at_request c.in-ReadFlow.is (not_read _ _ _ c.in-ReadFlow.old c.deref-mut-in-ReadFlow.result.now (c.deref-mut-in-ReadFlow.ensures.value ∙ c.in-ok-row.ensures) _ e.0)
+pub returns-in-Err-read_flow : goal.returns-in-Err-read_flow
+returns-in-Err-read_flow g c =
+    let e = c.in-Err-read_flow.ensures in
+    at_request c.in-ReadFlow.is (not_read _ _ _ c.in-ReadFlow.old c.deref_mut-in-ReadFlow.result.now (c.deref_mut-in-ReadFlow.ensures.value ∙ c.in_ok-row-in-ReadFlow.ensures) _ e.0)

@@ -4,7 +4,7 @@ use Rattle.runs.proofs.run.run.Goals as goal
 
 pub returns : goal.returns
 returns g c = record {
-  faithful = faithful_run _ _ _ _ _ _ _ _ _ _ g.met.E.Engine.sized c.new-engine.ensures (g.met.E.FlowEngine.greatest c.new-engine.result) c.answer-calls.ensures.begun;
-  whole = unstopped _ c.answer-calls.result c.err-stopped.result c.answer-calls.ensures.whole c.err-stopped.ensures.value;
-  short = was_stopped _ c.answer-calls.result c.err-stopped.result c.answer-calls.ensures.short c.err-stopped.ensures.value;
+  faithful = faithful_run _ _ _ _ _ _ _ _ _ _ g.met.E.Engine.sized c.new-engine.ensures (g.met.E.FlowEngine.greatest c.new-engine.result) c.answer_calls.ensures.begun;
+  whole = unstopped _ c.answer_calls.result c.err-stopped.result c.answer_calls.ensures.whole c.err-stopped.ensures.value;
+  short = was_stopped _ c.answer_calls.result c.err-stopped.result c.answer_calls.ensures.short c.err-stopped.ensures.value;
 }

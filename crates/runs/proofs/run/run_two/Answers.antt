@@ -9,7 +9,7 @@ returns g c = record {
   equal = equal_reports_lem _ _ _ _ _ _ _ _ _ _ _ _ _ _ _ _ g.met.E.Engine.sized g.met.F.Engine.sized c.run-one.ensures.faithful c.run-other.ensures.faithful;
   agree = answers_agree _ _ _ _ _ _ _ _ _ _ _ _ _ _ _ _ g.met.E.Engine.sized c.run-one.ensures.faithful c.run-other.ensures.faithful;
   whole = c.run-one.ensures.whole;
-  other-whole = c.run-other.ensures.whole;
+  other_whole = c.run-other.ensures.whole;
   short = c.run-one.ensures.short;
-  other-short = c.run-other.ensures.short;
+  other_short = c.run-other.ensures.short;
 }
