@@ -19,10 +19,10 @@ pub unwrap-next-requires : goal.unwrap-next-requires
 unwrap-next-requires g c =
     let line = rate_line c.args.step c.unwrap-report.result c.args.extent.now.junctions in
     let long = rate_length c.args.step c.unwrap-report.result c.args.extent.now.junctions in
-    put_fits c.args.at line c.args.page.now c.put-rate.result c.put-rate.new.space c.put-rate.ensures (omega arith)
+    put_fits c.args.at line c.args.page.now c.put_rate.result c.put_rate.new.space c.put_rate.ensures (omega arith)
 
-pub ask-governing-marks-requires : goal.ask-governing-marks-requires
-ask-governing-marks-requires g c =
+pub ask_governing-marks-requires : goal.ask_governing-marks-requires
+ask_governing-marks-requires g c =
     let w = g.E.Engine.meaning c.args.engine.now in
     let u = g.E.Engine.meaning c.pattern.new.self in
     let bs = c.args.letters.now in
@@ -34,11 +34,11 @@ ask-governing-marks-requires g c =
 pub unwrap-requires-2 : goal.unwrap-requires-2
 unwrap-requires-2 g c =
     let j = c.args.extent.now.junctions in
-    let marks = take c.args.extent.now.pipes c.ask-governing-marks.result in
-    let next = (put_ok c.args.at (rate_line c.args.step c.unwrap-report.result j) c.args.page.now c.put-rate.result c.put-rate.new.space c.unwrap-next.result c.put-rate.ensures c.unwrap-next.ensures).0 in
-    let marked : length (take c.args.extent.now.pipes c.ask-governing-marks.result) ≡ c.args.extent.now.pipes = ap length c.ask-governing-marks.ensures.row ∙ pipes_length (g.E.Engine.meaning c.pattern.new.self) c.args.extent.now.pipes in
-    put_fits c.unwrap-next.result (governing_line c.args.step marks) c.put-rate.new.space c.put-governing.result c.put-governing.new.space c.put-governing.ensures
-    (omega (arith, next, rate_length c.args.step c.unwrap-report.result c.args.extent.now.junctions, governing_length c.args.step (take c.args.extent.now.pipes c.ask-governing-marks.result)))
+    let marks = take c.args.extent.now.pipes c.ask_governing-marks.result in
+    let next = (put_ok c.args.at (rate_line c.args.step c.unwrap-report.result j) c.args.page.now c.put_rate.result c.put_rate.new.space c.unwrap-next.result c.put_rate.ensures c.unwrap-next.ensures).0 in
+    let marked : length (take c.args.extent.now.pipes c.ask_governing-marks.result) ≡ c.args.extent.now.pipes = ap length c.ask_governing-marks.ensures.row ∙ pipes_length (g.E.Engine.meaning c.pattern.new.self) c.args.extent.now.pipes in
+    put_fits c.unwrap-next.result (governing_line c.args.step marks) c.put_rate.new.space c.put_governing.result c.put_governing.new.space c.put_governing.ensures
+    (omega (arith, next, rate_length c.args.step c.unwrap-report.result c.args.extent.now.junctions, governing_length c.args.step (take c.args.extent.now.pipes c.ask_governing-marks.result)))
 
 pub returns : goal.returns
 returns g c =
@@ -53,10 +53,10 @@ returns g c =
     let joined : c.args.extent.now.junctions ≡ (g.E.Engine.meaning c.pattern.new.self).junctions = c.requires.joined ∙ sym (ap (λ (v : Network). v.junctions) is) in
     let j = c.args.extent.now.junctions in
     let p = c.args.extent.now.pipes in
-    let marks = take p c.ask-governing-marks.result in
-    let rate = put_ok c.args.at (rate_line c.args.step c.unwrap-report.result j) c.args.page.now c.put-rate.result c.put-rate.new.space c.unwrap-next.result c.put-rate.ensures c.unwrap-next.ensures in
-    let row = put_ok c.unwrap-next.result (governing_line c.args.step marks) c.put-rate.new.space c.put-governing.result c.put-governing.new.space c.unwrap-2.result c.put-governing.ensures c.unwrap-2.ensures in
-    let lines = lines_done c.args.page.now c.args.at (omega arith) c.put-rate.new.space c.put-governing.new.space c.args.step c.unwrap-next.result u c.unwrap-report.result j p marks report joined (c.requires.sized ∙ sym same) c.ask-governing-marks.ensures.row rate.0 rate.1 row.1 in
+    let marks = take p c.ask_governing-marks.result in
+    let rate = put_ok c.args.at (rate_line c.args.step c.unwrap-report.result j) c.args.page.now c.put_rate.result c.put_rate.new.space c.unwrap-next.result c.put_rate.ensures c.unwrap-next.ensures in
+    let row = put_ok c.unwrap-next.result (governing_line c.args.step marks) c.put_rate.new.space c.put_governing.result c.put_governing.new.space c.unwrap-2.result c.put_governing.ensures c.unwrap-2.ensures in
+    let lines = lines_done c.args.page.now c.args.at (omega arith) c.put_rate.new.space c.put_governing.new.space c.args.step c.unwrap-next.result u c.unwrap-report.result j p marks report joined (c.requires.sized ∙ sym same) c.ask_governing-marks.ensures.row rate.0 rate.1 row.1 in
     record {
       means = is;
       written = lines ∙ ap (λ (v : Network). put_at c.args.at (step_lines c.args.step v) c.args.page.now) is;
