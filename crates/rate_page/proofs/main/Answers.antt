@@ -6,4 +6,4 @@ use Rattle.writing.proofs.Puts.{put_fits}
 use Rattle.rate_page.proofs.main.Goals as goal
 
 pub unwrap-requires : goal.unwrap-requires
-unwrap-requires c = put_fits 0 (fail_line c.in-Err.refusal) (replicate 15 0) c.put-fail.result c.put-fail.new.space c.put-fail.ensures (omega (arith, fail_length c.in-Err.refusal))
+unwrap-requires c = put_fits 0 (fail_line c.in-Err.refusal) (replicate 15 0) c.put_fail.result c.put_fail.new.space c.put_fail.ensures (omega (arith, fail_length c.in-Err.refusal))
