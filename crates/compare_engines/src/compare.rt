@@ -65,10 +65,10 @@ impl Four {
 
     // What they answered to a call, counted from 0.
     pub(crate) fn told(&self, call: usize) -> Told<'_>
-        requires call_in_bounds { call < vec_len self.now.warm_fewest.answers }
-        requires call_in_bounds_2 { call < vec_len self.now.warm_widest.answers }
-        requires call_in_bounds_3 { call < vec_len self.now.cold_fewest.answers }
-        requires call_in_bounds_4 { call < vec_len self.now.cold_widest.answers }
+        requires warm_fewest { call < vec_len self.now.warm_fewest.answers }
+        requires warm_widest { call < vec_len self.now.warm_widest.answers }
+        requires cold_fewest { call < vec_len self.now.cold_fewest.answers }
+        requires cold_widest { call < vec_len self.now.cold_widest.answers }
         ensures { (Tells self.now.warm_fewest.answers.items call result.warm_fewest.now) × (Tells self.now.warm_widest.answers.items call result.warm_widest.now) × (Tells self.now.cold_fewest.answers.items call result.cold_fewest.now) × (Tells self.now.cold_widest.answers.items call result.cold_widest.now) }
     {
         Told {

@@ -6,10 +6,10 @@ use Rattle.compare_engines.proofs.compare.run_four.Goals as goal
 pub returns : goal.returns
 returns c i a b d e p q r s =
     let sized : (2 ≤ 64) × (64 ≤ 64) = (omega arith, omega arith) in
-    let work : 64 ≡ length c.run-two-warm-fewest.new.work = omega (arith, c.run-two-warm-fewest.auto.work) in
-    let spare : 64 ≡ length c.run-two-warm-fewest.new.spare = omega (arith, c.run-two-warm-fewest.auto.spare) in
-    let one = c.run-two-warm-fewest.ensures.one in (
-      answers_agree _ _ _ _ _ _ _ _ _ _ _ _ _ _ _ _ sized one c.run-two-warm-fewest.ensures.other refl refl (same_calls _ _ c.requires) i a b p q,
-      answers_agree _ _ _ _ _ _ _ _ _ _ _ _ _ _ _ _ sized one c.run-two-cold-fewest.ensures.one refl work (same_calls _ _ refl) i a d p r,
-      answers_agree _ _ _ _ _ _ _ _ _ _ _ _ _ _ _ _ sized one c.run-two-cold-fewest.ensures.other refl spare (same_calls _ _ c.requires) i a e p s,
+    let work : 64 ≡ length c.run_two-warm_fewest.new.work = omega (arith, c.run_two-warm_fewest.auto.work) in
+    let spare : 64 ≡ length c.run_two-warm_fewest.new.spare = omega (arith, c.run_two-warm_fewest.auto.spare) in
+    let one = c.run_two-warm_fewest.ensures.one in (
+      answers_agree _ _ _ _ _ _ _ _ _ _ _ _ _ _ _ _ sized one c.run_two-warm_fewest.ensures.other refl refl (same_calls _ _ c.requires) i a b p q,
+      answers_agree _ _ _ _ _ _ _ _ _ _ _ _ _ _ _ _ sized one c.run_two-cold_fewest.ensures.one refl work (same_calls _ _ refl) i a d p r,
+      answers_agree _ _ _ _ _ _ _ _ _ _ _ _ _ _ _ _ sized one c.run_two-cold_fewest.ensures.other refl spare (same_calls _ _ c.requires) i a e p s,
     )

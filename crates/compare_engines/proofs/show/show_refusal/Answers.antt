@@ -6,4 +6,4 @@ use Rattle.writing.proofs.Puts.{put_fits}
 use Rattle.compare_engines.proofs.show.show_refusal.Goals as goal
 
 pub unwrap-requires : goal.unwrap-requires
-unwrap-requires c = put_fits 0 (fail_line c.args.refusal.now) (replicate 15 0) c.put-fail.result c.put-fail.new.space c.put-fail.ensures (omega (arith, fail_length c.args.refusal.now))
+unwrap-requires c = put_fits 0 (fail_line c.args.refusal.now) (replicate 15 0) c.put_fail.result c.put_fail.new.space c.put_fail.ensures (omega (arith, fail_length c.args.refusal.now))

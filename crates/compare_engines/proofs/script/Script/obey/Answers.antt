@@ -16,7 +16,7 @@ pub returns-in-Limit : goal.returns-in-Limit
 returns-in-Limit c = adds_one _ _ c.in-Limit.is _ _ _ _ limits refl c.add-in-Limit.ensures.calls c.add-in-Limit.ensures.places
 
 pub returns-in-Pattern : goal.returns-in-Pattern
-returns-in-Pattern c = adds_one _ _ c.in-Pattern.is _ _ _ _ (patterns c.behind-columns.ensures) refl c.add-in-Pattern.ensures.calls c.add-in-Pattern.ensures.places
+returns-in-Pattern c = adds_one _ _ c.in-Pattern.is _ _ _ _ (patterns c.behind_columns.ensures) refl c.add-in-Pattern.ensures.calls c.add-in-Pattern.ensures.places
 
 pub returns-in-Report : goal.returns-in-Report
 returns-in-Report c = adds_one _ _ c.in-Report.is _ _ _ _ reports refl c.add-in-Report.ensures.calls c.add-in-Report.ensures.places
@@ -36,6 +36,6 @@ returns-in-Places c = adds_none _ _ c.in-Places.is _ _ places refl refl
 pub returns-in-Schedule : goal.returns-in-Schedule
 returns-in-Schedule c = adds_none _ _ c.in-Schedule.is _ _ schedules refl refl
 
-pub returns-in-ok-add : goal.returns-in-ok-add
-returns-in-ok-add c =
-    adds_two _ _ c.in-Step.is _ _ c.add-in-Step.new.self _ _ _ (steps c.behind-columns-in-Step.ensures) refl c.in-ok-add.ensures.calls c.in-ok-add.ensures.places c.add-in-Step-2.ensures.calls c.add-in-Step-2.ensures.places
+pub returns-in_ok-add-in-Step : goal.returns-in_ok-add-in-Step
+returns-in_ok-add-in-Step c =
+    adds_two _ _ c.in-Step.is _ _ c.add-in-Step.new.self _ _ _ (steps c.behind_columns-in-Step.ensures) refl c.in_ok-add-in-Step.ensures.calls c.in_ok-add-in-Step.ensures.places c.add-in-Step-2.ensures.calls c.add-in-Step-2.ensures.places
