@@ -1,5 +1,5 @@
 -- How much passes a junction, and how an augmentation brings the value nearer to its bound.
-use Rattle.std.proofs.Common.{ℕ, zero, suc, ◌+◌, ◌-◌, ◌*◌, ◌<◌, ◌≤◌, Bool, true, false, eqb, List, ap, arith}
+use Rattle.std.proofs.Common.{ℕ, zero, suc, ◌+◌, ◌-◌, ◌*◌, ◌<◌, ◌≤◌, Bool, true, false, eqb, List, arith}
 use Rattle.network.specs.declared.table.Table.{Table}
 use Rattle.network.specs.Flows.{Flow, outflow, inflow}
 use Rattle.network.specs.Network.{Network, Wired}

@@ -11,7 +11,7 @@ use Rattle.network.specs.Cuts.{has}
 use Rattle.network.specs.Network.{Pipe, Network}
 use Rattle.network.specs.Pipes.{pipe_of, network_of, flow_of}
 use Rattle.network.specs.Reaches.{Edge, Reaches, here, on, Reached}
-use Rattle.network.specs.Residual.{pipe, tail, head, weight_by, Residual}
+use Rattle.network.specs.Residual.{tail, head, weight_by, Residual}
 use Rattle.network.proofs.Reached.{sealed_reach, reach_step}
 use Rattle.network.proofs.Words.{has_or, has_power, has_other}
 use Rattle.paths.proofs.Tables.{read_row, size_is, pipe_is, weight_read, ends_read}

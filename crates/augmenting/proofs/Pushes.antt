@@ -1,5 +1,5 @@
 -- What a row takes more or less, and what other pipes take then.
-use Rattle.std.proofs.Common.{◌≡◌, ℕ, ◌+◌, ◌-◌, ◌<◌, ◌≤◌, ◌≢◌, List, [], ◌∷◌, get_or, take, set, sym, subst, arith}
+use Rattle.std.proofs.Common.{◌≡◌, ℕ, ◌+◌, ◌-◌, ◌<◌, ◌≤◌, ◌≢◌, List, [], ◌∷◌, get_or, sym, subst, arith}
 use Rattle.std.specs.List.{AllByRecursion as All}
 use Rattle.std.proofs.lemmas.List.{get_or-set_other, get_or_default}
 use Rattle.network.specs.declared.row.Row.{Row}
@@ -11,7 +11,7 @@ use Rattle.network.specs.declared.valve.Valve.TheVariants.{Open, Closed}
 use Rattle.network.specs.Network.{Network}
 use Rattle.network.specs.Pipes.{pipe_of}
 use Rattle.network.specs.Pushing.{moved, push}
-use Rattle.network.specs.Residual.{pipe, weight, weight_by, carried}
+use Rattle.network.specs.Residual.{pipe, weight_by, carried}
 use Rattle.network.specs.Rows.{no_row, Limited, SoundFlow}
 use Rattle.network.specs.Valves.{room}
 use Rattle.augmenting.specs.Chains.{Takes}

@@ -3,7 +3,6 @@ use Rattle.std.proofs.Common.{◌≡◌, ℕ, zero, suc, ◌+◌, ◌-◌, ◌*�
 use Rattle.std.proofs.lemmas.Nat.{pow_pos, pow-add, shr-shr, shr_high}
 use Rattle.std.proofs.lemmas.Int.{ints}
 use Rattle.std.proofs.lemmas.Bool.Decides.{nat_tests}
-use Rattle.network.specs.declared.pipe.Pipe as pipe-record
 use Rattle.network.specs.declared.step.Direction.TheVariants.{Against}
 use Rattle.network.specs.declared.step.Step.{Step}
 use Rattle.network.specs.Cuts.{has}

@@ -1,3 +1,5 @@
+#![tactic(auto)]
+
 pub mod fill;
 pub mod lead;
 pub mod led;

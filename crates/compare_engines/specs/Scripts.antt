@@ -12,7 +12,6 @@ use Rattle.runs.specs.declared.call.Request as request
 use Rattle.compare_engines.specs.declared.order.Order.{Order}
 use Rattle.compare_engines.specs.declared.order.Order.TheVariants.{Sheet, Open, Close, Limit, Pattern, Report, Governing, WriteSheet, ReadFlow, Places, Schedule, Step}
 use Rattle.compare_engines.specs.declared.script.Script.{Script}
-use Rattle.compare_engines.specs.declared.source.Source.{Source}
 use Rattle.compare_engines.specs.declared.stop.Stop.{Stop}
 use Rattle.compare_engines.specs.declared.stop.Stop.TheVariants.{Memory, Unread}
 use Rattle.compare_engines.specs.Orders.{order_in, pipe_follows_in}

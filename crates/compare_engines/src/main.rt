@@ -1,3 +1,5 @@
+#![tactic(auto)]
+
 mod agree;
 mod compare;
 mod four;

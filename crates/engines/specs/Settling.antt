@@ -3,7 +3,7 @@ use Rattle.std.specs.Prelude.{◌≡◌, ℕ, ◌+◌, ◌-◌, ◌≤◌, List}
 use Rattle.std.proofs.Common.{arith}
 use Rattle.std.proofs.lemmas.Int.{ints}
 use Rattle.network.specs.declared.step.Step.{Step}
-use Rattle.network.specs.Flows.{Flow, Within, dry, value, Greatest, outflow, inflow}
+use Rattle.network.specs.Flows.{Flow, Within, dry, Greatest, outflow, inflow}
 use Rattle.network.specs.Network.{Network, Wired}
 use Rattle.network.specs.Paths.{Path}
 use Rattle.network.specs.Reports.{report_of}

@@ -1,3 +1,5 @@
+#![tactic(auto)]
+
 pub mod admission;
 pub mod cold;
 pub mod cold_calls;

@@ -1,3 +1,5 @@
+#![tactic(auto)]
+
 pub mod fields;
 pub mod header;
 pub mod letters;

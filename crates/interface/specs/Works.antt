@@ -1,5 +1,5 @@
 -- How an engine comes from the flow that it kept before a change to the one that it keeps after it.
-use Rattle.std.specs.Prelude.{◌≡◌, ℕ, suc, ◌+◌, ◌-◌, ◌<◌, ◌≤◌, List, set, Some, ◌≢◌, slice_index, slice_set}
+use Rattle.std.specs.Prelude.{◌≡◌, ℕ, suc, ◌+◌, ◌-◌, ◌<◌, ◌≤◌, List, Some, ◌≢◌, slice_index, slice_set}
 use Rattle.network.specs.declared.valve.Valve as valve
 use Rattle.network.specs.Changes.{with_pipe, with_limit, with_valve, opening, closing, limiting}
 use Rattle.network.specs.Flows.{dry}

@@ -1,3 +1,5 @@
+#![tactic(auto)]
+
 pub mod governing;
 pub mod pipe;
 pub mod pipes;

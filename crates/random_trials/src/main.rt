@@ -1,3 +1,5 @@
+#![tactic(auto)]
+
 mod draws;
 mod flows;
 mod plan;

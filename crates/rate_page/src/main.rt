@@ -1,3 +1,5 @@
+#![tactic(auto)]
+
 use anyhow::anyhow;
 use engines::warm::WarmEngine;
 use interface::engine::Engine;

@@ -1,2 +1,4 @@
+#![tactic(auto)]
+
 pub mod page;
 pub mod theorems;

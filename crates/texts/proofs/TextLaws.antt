@@ -1,5 +1,5 @@
 -- Sheets and whole texts: read as they are written, and refused for the first condition missed.
-use Rattle.std.proofs.Common.{◌≡◌, ℕ, zero, suc, ◌+◌, ◌≤◌, List, [], ◌∷◌, ◌++◌, length, take, drop, Ok, Err, Result, sym, ap, ◌∙◌, arith, length-append}
+use Rattle.std.proofs.Common.{◌≡◌, ℕ, zero, suc, ◌+◌, ◌≤◌, List, [], ◌∷◌, ◌++◌, length, drop, Ok, Err, Result, sym, ap, ◌∙◌, arith, length-append}
 use Rattle.network.specs.Network.{Pipe, Network}
 use Rattle.network.specs.Residual.{size}
 use Rattle.formats.specs.declared.refusal.Refusal.{Refusal}

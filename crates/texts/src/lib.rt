@@ -1,3 +1,5 @@
+#![tactic(auto)]
+
 pub mod extent;
 pub mod laws;
 pub mod text;

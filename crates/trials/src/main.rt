@@ -1,3 +1,5 @@
+#![tactic(auto)]
+
 mod cases;
 
 use cases::{Case, next_case};

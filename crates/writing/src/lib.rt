@@ -1,3 +1,5 @@
+#![tactic(auto)]
+
 mod fields;
 pub mod page;
 pub mod sheet_lines;

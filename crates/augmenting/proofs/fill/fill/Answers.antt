@@ -1,4 +1,4 @@
-use Rattle.std.proofs.Common.{◌≡◌, ℕ, ◌+◌, ◌-◌, ◌≤◌, List, sym, refl, ap, ◌∙◌, subst, add-one, arith}
+use Rattle.std.proofs.Common.{◌≡◌, ℕ, ◌+◌, ◌≤◌, List, sym, refl, ap, ◌∙◌, subst, add-one, arith}
 use Rattle.network.specs.declared.table.Table.{Table}
 use Rattle.network.specs.Network.{Network}
 use Rattle.network.specs.Flows.{Flow, inflow, outflow}

@@ -1,4 +1,4 @@
-use Rattle.std.proofs.Common.{◌≡◌, ◌-◌, sym, refl, ap, ◌∙◌, subst, arith}
+use Rattle.std.proofs.Common.{◌≡◌, sym, refl, ap, ◌∙◌, subst, arith}
 use Rattle.network.specs.declared.step.Direction.TheVariants.{Along}
 use Rattle.network.specs.Changes.{with_limit, with_valve}
 use Rattle.network.specs.Flows.{Greatest}

@@ -1,6 +1,6 @@
 use Rattle.std.proofs.Common.{◌≤◌, sym, ap, subst, arith}
 use Rattle.network.specs.declared.step.Direction.{Direction}
-use Rattle.network.specs.declared.step.Direction.TheVariants.{Along, Against}
+use Rattle.network.specs.declared.step.Direction.TheVariants.{Along}
 use Rattle.network.specs.Pipes.{pipe_of}
 use Rattle.network.specs.Pushing.{moved}
 use Rattle.network.specs.Residual.{weight_by}

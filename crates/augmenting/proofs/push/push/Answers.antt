@@ -4,7 +4,7 @@ use Rattle.network.specs.declared.step.Step.{Step}
 use Rattle.network.specs.declared.table.Table.{Table}
 use Rattle.network.specs.Network.{Network}
 use Rattle.network.specs.Pipes.{network_of, flow_of}
-use Rattle.network.specs.Pushing.{push, pushed}
+use Rattle.network.specs.Pushing.{pushed}
 use Rattle.network.specs.Residual.{tail, weight}
 use Rattle.paths.specs.declared.label.Label.{Label}
 use Rattle.paths.specs.BestPaths.{via_at}

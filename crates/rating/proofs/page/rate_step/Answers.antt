@@ -1,4 +1,4 @@
-use Rattle.std.proofs.Common.{◌≡◌, ◌-◌, length, take, Ok, sym, ap, ◌∙◌, arith}
+use Rattle.std.proofs.Common.{◌≡◌, length, take, Ok, sym, ap, ◌∙◌, arith}
 use Rattle.network.specs.declared.report.Report.{Report}
 use Rattle.network.specs.Network.{Network}
 use Rattle.network.specs.Reports.{report_of}

@@ -1,4 +1,4 @@
-use Rattle.std.proofs.Common.{length, refl, arith}
+use Rattle.std.proofs.Common.{refl, arith}
 use Rattle.writing.proofs.PageLines.{rate_length, rate_done}
 use Rattle.writing.proofs.page.put_rate.Goals as goal
 

@@ -1,4 +1,4 @@
-use Rattle.std.proofs.Common.{◌<◌, vec_items, refl, arith}
+use Rattle.std.proofs.Common.{vec_items, refl, arith}
 use Rattle.compare_engines.proofs.Agreeing.{within_told, agree_next, untrue, unanswered}
 use Rattle.compare_engines.proofs.four.Four.difference.Goals as goal
 

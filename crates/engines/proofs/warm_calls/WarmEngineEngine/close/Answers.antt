@@ -1,7 +1,6 @@
 use Rattle.std.proofs.Common.{◌≡◌, ℕ, Ok, sym, refl, ap, ◌∙◌, subst, arith, w64, SFits, rules}
 use Rattle.std.proofs.lemmas.Result.{err_from_is_err_and}
 use Rattle.std.proofs.lemmas.Int.{to_z-of_z}
-use Rattle.network.specs.declared.pipe.Pipe.{Pipe}
 use Rattle.network.specs.declared.table.Table.{Table}
 use Rattle.network.specs.declared.valve.Valve.TheVariants.{Closed}
 use Rattle.network.specs.Changes.{with_limit, with_valve}

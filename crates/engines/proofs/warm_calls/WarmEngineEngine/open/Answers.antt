@@ -5,7 +5,6 @@ use Rattle.network.specs.declared.valve.Valve.TheVariants.{Open}
 use Rattle.network.specs.Changes.{opening}
 use Rattle.network.specs.Network.{Network}
 use Rattle.network.specs.Pipes.{network_of, flow_of}
-use Rattle.network.specs.Residual.{pipe}
 use Rattle.network.specs.Valves.{room}
 use Rattle.interface.specs.Augmentations.{Fills}
 use Rattle.interface.specs.Verdicts.{change}

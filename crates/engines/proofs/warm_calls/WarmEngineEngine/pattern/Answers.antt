@@ -3,7 +3,6 @@ use Rattle.std.proofs.lemmas.Result.{err_from_is_err_and}
 use Rattle.std.proofs.lemmas.Int.{to_z-of_z}
 use Rattle.network.specs.Network.{Network}
 use Rattle.network.specs.Pipes.{network_of, flow_of}
-use Rattle.network.specs.Residual.{size}
 use Rattle.network.proofs.TableFacts.{table_size, table_within}
 use Rattle.interface.specs.Augmentations.{Fills}
 use Rattle.interface.specs.Verdicts.{change, patterned}
