@@ -1,3 +1,5 @@
+#![tactic(auto)]
+
 pub mod fewest;
 pub mod label;
 pub mod metric;

@@ -12,35 +12,19 @@ each_more Rule rows count r h e here k l = elim (cases_eq k count) [
   | inr n ↦ subst (λ (z : Row). Rule z) (sym (get_or-set_other rows count k r no_row n)) (e k (omega arith))
 ]
 
-pub invariant-of-result : goal.invariant-of-result
-invariant-of-result c =
+pub invariant_of-result : goal.invariant_of-result
+invariant_of-result c =
     let t = c.args.table in
     let r : Row = record { from = c.args.from; to = c.args.to; limit = c.args.limit; flow = c.args.flow; valve = Open } in
-    let lt : c.args.table.count < length c.args.table.rows = (let k = t.long in omega arith) in (
-      t.two,
-      (
-        t.most,
-        (
-          t.pumped,
-          (
-            t.drained,
-            (
-              t.apart,
-              (
-                simp length-set t.long,
-                (
-                  omega arith,
-                  (
-                    each_more (Joined t.junctions) t.rows t.count r lt t.joined (omega arith, omega arith, λ e. omega arith),
-                    (
-                      each_more Limited t.rows t.count r lt t.limited (omega arith, omega arith),
-                      (each_more SoundFlow t.rows t.count r lt t.flowing (omega arith), tt),
-                    ),
-                  ),
-                ),
-              ),
-            ),
-          ),
-        ),
-      ),
-    )
+    let lt : c.args.table.count < length c.args.table.rows = (let k = t.long in omega arith) in record {
+      two = t.two;
+      most = t.most;
+      pumped = t.pumped;
+      drained = t.drained;
+      apart = t.apart;
+      long = simp length-set t.long;
+      held = omega arith;
+      joined = each_more (Joined t.junctions) t.rows t.count r lt t.joined (omega arith, omega arith, λ e. omega arith);
+      limited = each_more Limited t.rows t.count r lt t.limited (omega arith, omega arith);
+      flowing = each_more SoundFlow t.rows t.count r lt t.flowing (omega arith);
+    }
