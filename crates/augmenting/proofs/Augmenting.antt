@@ -1,6 +1,6 @@
 -- From what a search answers to an augmentation.
 use Rattle.std.proofs.Common.{◌≡◌, ℕ, ◌<◌, ◌≤◌, List, sym, ap, ◌∙◌, subst}
-use Rattle.std.specs.List.{AllByRecursion as All}
+use Rattle.std.specs.List.{AllByRecursion}
 use Rattle.network.specs.declared.step.Step.{Step}
 use Rattle.network.specs.declared.table.Table.{Table}
 use Rattle.network.specs.Pipes.{network_of, flow_of}
@@ -24,8 +24,8 @@ module _ {L Λ : Type 0} {means : L → Λ} {good : Λ → Λ → Type 0} {start
   spelled_is : steps_back ≡ best.steps
   spelled_is = chain_spelled (network_of t) (via_at ls) a best.steps t.junctions b (short (sound t) a a_in best.steps b best.leads) best.spelled
 
-  pub spelled_inside : All (λ s. s.pipe < t.count) steps_back
-  spelled_inside = subst (λ (ss : List Step). All (λ s. s.pipe < t.count) ss) (sym spelled_is) (path_inside (network_of t) (flow_of t) a t.count (size_is t) best.steps b best.leads)
+  pub spelled_inside : AllByRecursion (λ s. s.pipe < t.count) steps_back
+  spelled_inside = subst (λ (ss : List Step). AllByRecursion (λ s. s.pipe < t.count) ss) (sym spelled_is) (path_inside (network_of t) (flow_of t) a t.count (size_is t) best.steps b best.leads)
 
   pub spelled_once : Once steps_back
   spelled_once = subst Once (sym spelled_is) (path_once (network_of t) (flow_of t) a best.steps b best.leads)
@@ -34,11 +34,11 @@ module _ {L Λ : Type 0} {means : L → Λ} {good : Λ → Λ → Type 0} {start
     amount : c ≡ least_weight_of (network_of t) (flow_of t) most best.steps
     amount = is ∙ ap (least_weight_of (network_of t) (flow_of t) most) spelled_is
 
-    weights : All (λ s. c ≤ weight (network_of t) (flow_of t) s) best.steps
-    weights = subst (λ (x : ℕ). All (λ s. x ≤ weight (network_of t) (flow_of t) s) best.steps) (sym amount) (least_all (network_of t) (flow_of t) most best.steps)
+    weights : AllByRecursion (λ s. c ≤ weight (network_of t) (flow_of t) s) best.steps
+    weights = subst (λ (x : ℕ). AllByRecursion (λ s. x ≤ weight (network_of t) (flow_of t) s) best.steps) (sym amount) (least_all (network_of t) (flow_of t) most best.steps)
 
-    pub spelled_takes : All (Takes (network_of t) (flow_of t) c) steps_back
-    spelled_takes = subst (λ (ss : List Step). All (Takes (network_of t) (flow_of t) c) ss) (sym spelled_is) (path_takes (network_of t) (flow_of t) a c best.steps b best.leads weights)
+    pub spelled_takes : AllByRecursion (Takes (network_of t) (flow_of t) c) steps_back
+    spelled_takes = subst (λ (ss : List Step). AllByRecursion (Takes (network_of t) (flow_of t) c) ss) (sym spelled_is) (path_takes (network_of t) (flow_of t) a c best.steps b best.leads weights)
 
     pub augments : 0 < most → (g : List ℕ) → g ≡ pushed (flow_of t) c steps_back → Augments (network_of t) good start extended a b most (flow_of t) c g
     augments h g e = record {

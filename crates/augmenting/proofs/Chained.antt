@@ -1,6 +1,6 @@
 -- Following labels back, step by step.
 use Rattle.std.proofs.Common.{◌≡◌, ℕ, zero, suc, ◌+◌, ◌-◌, ◌<◌, ◌≤◌, List, [], ◌∷◌, length, get_or, Some, None, Option, ap, ◌∙◌, subst, arith}
-use Rattle.std.specs.List.{AllByRecursion as All}
+use Rattle.std.specs.List.{AllByRecursion}
 use Rattle.network.specs.declared.step.Step.{Step}
 use Rattle.network.specs.Network.{Network}
 use Rattle.network.specs.Residual.{tail}
@@ -46,5 +46,5 @@ module _ {L : Type 0} (w : Network) (ls : List (Label L)) (n k b : ℕ) (l : Lab
     turn_more = spelled_more w (via_at ls) n k b s more (at_read (λ (l : Label L). l.via) None ls b l inside is ∙ step)
 
     -- what holds of all steps that are left
-    pub turn_all : (P : Step → Type 0) → All P (spelled w (via_at ls) (n - k) b) → P s × All P (spelled w (via_at ls) (n - (k + 1)) (tail w s))
-    turn_all P h = subst (λ (ss : List Step). All P ss) turn_more h
+    pub turn_all : (P : Step → Type 0) → AllByRecursion P (spelled w (via_at ls) (n - k) b) → P s × AllByRecursion P (spelled w (via_at ls) (n - (k + 1)) (tail w s))
+    turn_all P h = subst (λ (ss : List Step). AllByRecursion P ss) turn_more h

@@ -1,6 +1,6 @@
 -- What a row takes more or less, and what other pipes take then.
 use Rattle.std.proofs.Common.{◌≡◌, ℕ, ◌+◌, ◌-◌, ◌<◌, ◌≤◌, ◌≢◌, List, [], ◌∷◌, get_or, sym, subst, arith}
-use Rattle.std.specs.List.{AllByRecursion as All}
+use Rattle.std.specs.List.{AllByRecursion}
 use Rattle.std.proofs.lemmas.List.{get_or-set_other, get_or_default}
 use Rattle.network.specs.declared.row.Row.{Row}
 use Rattle.network.specs.declared.step.Direction.TheVariants.{Along, Against}
@@ -43,6 +43,6 @@ takes_other w f c s t d h =
     let same : carried (push f c s) t.pipe ≡ carried f t.pipe = get_or-set_other f s.pipe t.pipe (moved s.direction (carried f s.pipe) c) 0 d in
     (h.0, subst (λ (x : ℕ). c ≤ weight_by t.direction (pipe w t.pipe) x) (sym same) h.1)
 
-pub takes_others : (w : Network) (f : List ℕ) (c : ℕ) (s : Step) (ss : List Step) → All (λ t. t.pipe ≢ s.pipe) ss → All (Takes w f c) ss → All (Takes w (push f c s) c) ss
+pub takes_others : (w : Network) (f : List ℕ) (c : ℕ) (s : Step) (ss : List Step) → AllByRecursion (λ t. t.pipe ≢ s.pipe) ss → AllByRecursion (Takes w f c) ss → AllByRecursion (Takes w (push f c s) c) ss
 takes_others w f c s [] d h = tt
 takes_others w f c s (t ∷ ts) d h = (takes_other w f c s t d.0 h.0, takes_others w f c s ts d.1 h.1)

@@ -1,6 +1,6 @@
 -- The smallest weight on a path, and what an augmentation by it does.
 use Rattle.std.proofs.Common.{◌≡◌, ℕ, ◌+◌, ◌<◌, ◌≤◌, min, List, [], ◌∷◌, sym, refl, ap, subst, arith}
-use Rattle.std.specs.List.{AllByRecursion as All}
+use Rattle.std.specs.List.{AllByRecursion}
 use Rattle.std.proofs.lemmas.Int.{ints}
 use Rattle.std.proofs.lemmas.Bool.{eq-eqb, ne_eqb}
 use Rattle.network.specs.declared.step.Step.{Step}
@@ -25,7 +25,7 @@ module _ (w : Network) (f : List ℕ) where
   least_le most [] = omega arith
   least_le most (s ∷ ss) = omega (arith, least_le (min most (weight w f s)) ss)
 
-  pub least_all : (most : ℕ) (ss : List Step) → All (λ s. least_weight_of w f most ss ≤ weight w f s) ss
+  pub least_all : (most : ℕ) (ss : List Step) → AllByRecursion (λ s. least_weight_of w f most ss ≤ weight w f s) ss
   least_all most [] = tt
   least_all most (s ∷ ss) = (omega (arith, least_le (min most (weight w f s)) ss), least_all (min most (weight w f s)) ss)
 
@@ -34,18 +34,18 @@ module _ (w : Network) (f : List ℕ) where
     path_some most [] b p h = h
     path_some most (s ∷ ss) b p h = path_some (min most (weight w f s)) ss (tail w s) p.3 (omega (arith, p.0.heavy))
 
-    pub path_takes : (c : ℕ) (ss : List Step) (b : ℕ) → Path w f a ss b → All (λ s. c ≤ weight w f s) ss → All (Takes w f c) ss
+    pub path_takes : (c : ℕ) (ss : List Step) (b : ℕ) → Path w f a ss b → AllByRecursion (λ s. c ≤ weight w f s) ss → AllByRecursion (Takes w f c) ss
     path_takes c [] b p h = tt
     path_takes c (s ∷ ss) b p h = ((p.0.inside, h.0), path_takes c ss (tail w s) p.3 h.1)
 
-    pub path_inside : (n : ℕ) → size w ≡ n → (ss : List Step) (b : ℕ) → Path w f a ss b → All (λ s. s.pipe < n) ss
+    pub path_inside : (n : ℕ) → size w ≡ n → (ss : List Step) (b : ℕ) → Path w f a ss b → AllByRecursion (λ s. s.pipe < n) ss
     path_inside n e [] b p = tt
     path_inside n e (s ∷ ss) b p = (omega (arith, p.0.inside), path_inside n e ss (tail w s) p.3)
 
 -- an augmentation from a to b keeps within the limits, moves its amount from a to b, and leaves sets sealed that have both ends or neither
 module _ {Λ : Type 0} {good : Λ → Λ → Type 0} {start : Λ} {extended : Λ → ℕ → Λ} (w : Network) (a b most : ℕ) (f : List ℕ) (c : ℕ) (g : List ℕ) (aug : Augments w good start extended a b most f c g) where
-  takes : All (λ s. c ≤ weight w f s) aug.steps
-  takes = subst (λ (x : ℕ). All (λ s. x ≤ weight w f s) aug.steps) (sym aug.amount_is) (least_all w f most aug.steps)
+  takes : AllByRecursion (λ s. c ≤ weight w f s) aug.steps
+  takes = subst (λ (x : ℕ). AllByRecursion (λ s. x ≤ weight w f s) aug.steps) (sym aug.amount_is) (least_all w f most aug.steps)
 
   pub augmented_most : c ≤ most
   augmented_most = omega (arith, aug.amount_is, least_le w f most aug.steps)

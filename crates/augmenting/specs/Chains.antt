@@ -1,6 +1,6 @@
 -- The steps that labels spell.
 use Rattle.std.specs.Prelude.{ℕ, zero, suc, ◌<◌, ◌≤◌, ◌≢◌, List, [], ◌∷◌, Some, None, Option}
-use Rattle.std.specs.List.{AllByRecursion as All}
+use Rattle.std.specs.List.{AllByRecursion}
 use Rattle.network.specs.declared.step.Step.{Step}
 use Rattle.network.specs.Network.{Network}
 use Rattle.network.specs.Residual.{tail, size, weight}
@@ -17,4 +17,4 @@ Takes w f c s = (s.pipe < size w) × (c ≤ weight w f s)
 -- no pipe is used twice
 abbrev pub Once : List Step → Type 0
 Once [] = Unit {0}
-Once (s ∷ ss) = All (λ t. t.pipe ≢ s.pipe) ss × Once ss
+Once (s ∷ ss) = AllByRecursion (λ t. t.pipe ≢ s.pipe) ss × Once ss

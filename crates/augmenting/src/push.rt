@@ -1,5 +1,5 @@
 ghost use Rattle.std.specs.Prelude.{◌≡◌, ◌<◌, ◌≤◌, min, length};
-ghost use Rattle.std.specs.List.{AllByRecursion as All};
+ghost use Rattle.std.specs.List.{AllByRecursion};
 ghost use Rattle.network.specs.Pipes.{network_of, flow_of, pipe_of};
 ghost use Rattle.network.specs.Pushing.{moved, push, pushed};
 ghost use Rattle.network.specs.Residual.{weight, weight_by};
@@ -26,7 +26,7 @@ pub fn least_weight<M: PathMetric>(
 ) -> u32
     requires goal { goal < table.now.junctions }
     requires places { table.now.junctions ≤ length labels.now }
-    requires inside { All (λ s. s.pipe < table.now.count) (spelled (network_of table.now) (via_at labels.now) table.now.junctions goal) }
+    requires inside { AllByRecursion (λ s. s.pipe < table.now.count) (spelled (network_of table.now) (via_at labels.now) table.now.junctions goal) }
     ensures { result ≡ least_weight_of (network_of table.now) (flow_of table.now) most (spelled (network_of table.now) (via_at labels.now) table.now.junctions goal) }
 {
     let mut at = goal;
@@ -74,7 +74,7 @@ fn push_step(table: &mut Table, step: Step, amount: u32)
 pub fn push<M: PathMetric>(table: &mut Table, labels: &[Label<M>], goal: usize, amount: u32)
     requires goal { goal < table.old.junctions }
     requires places { table.old.junctions ≤ length labels.now }
-    requires takes { All (Takes (network_of table.old) (flow_of table.old) amount) (spelled (network_of table.old) (via_at labels.now) table.old.junctions goal) }
+    requires takes { AllByRecursion (Takes (network_of table.old) (flow_of table.old) amount) (spelled (network_of table.old) (via_at labels.now) table.old.junctions goal) }
     requires once { Once (spelled (network_of table.old) (via_at labels.now) table.old.junctions goal) }
     ensures same { network_of table.new ≡ network_of table.old }
     ensures count { table.new.count ≡ table.old.count }

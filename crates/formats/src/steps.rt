@@ -1,5 +1,5 @@
 ghost use Rattle.std.specs.Prelude.{◌≡◌, ◌+◌, ◌-◌, ◌<◌, ◌≤◌, [], map, length, take, drop, Ok, Err};
-ghost use Rattle.std.specs.List.{AllByRecursion as All};
+ghost use Rattle.std.specs.List.{AllByRecursion};
 ghost use Rattle.formats.specs.Readers.{rest, Advanced, Went};
 ghost use Rattle.formats.specs.Schedules.{SoundStep, step_in, next_step_in, steps_in, next_count_in, schedule_in, timed};
 
@@ -63,7 +63,7 @@ impl<'a> Reader<'a> {
         requires held { count ≤ length steps.old }
         ensures { elim result [
           | Ok u ↦ (steps_in count pipes (self.old.lines + 1) (rest self.old) [] ≡ Ok (map timed (take count steps.new), rest self.new))
-              × All (SoundStep pipes) (map timed (take count steps.new))
+              × AllByRecursion (SoundStep pipes) (map timed (take count steps.new))
               × Went count self.old self.new
               × (drop count steps.new ≡ drop count steps.old)
           | Err e ↦ steps_in count pipes (self.old.lines + 1) (rest self.old) [] ≡ Err e
@@ -87,7 +87,7 @@ impl<'a> Reader<'a> {
         ensures { elim result [
           | Ok n ↦ (schedule_in pipes (self.old.lines + 1) (rest self.old) ≡ Ok (map timed (take n steps.new)))
               × (1 ≤ n) × (n ≤ 100)
-              × All (SoundStep pipes) (map timed (take n steps.new))
+              × AllByRecursion (SoundStep pipes) (map timed (take n steps.new))
               × (drop n steps.new ≡ drop n steps.old)
               × (length (rest self.new) ≡ 0)
               × Went (1 + n) self.old self.new

@@ -1,6 +1,6 @@
 -- The listed cuts and minimum cuts are all the cuts and all the minimum cuts.
 use Rattle.std.proofs.Common.{◌≡◌, ℕ, zero, suc, ◌-◌, ◌^◌, ◌<◌, ◌≤◌, min, Bool, true, false, cond, not, ◌⊎◌, List, [], ◌∷◌, Decides, fold, sum_by, filter, refl, inl, inr, arith}
-use Rattle.std.specs.List.{AllByRecursion as All}
+use Rattle.std.specs.List.{AllByRecursion}
 use Rattle.std.proofs.lemmas.Nat.{pow_pos, pow_below}
 use Rattle.std.proofs.ByRecursion.{All-weaker, sum_by_le}
 use Rattle.std.proofs.lemmas.List.Sums.{sum_by-cons}
@@ -15,40 +15,40 @@ use Rattle.network.specs.Valves.{room}
 use Rattle.network.proofs.Words.{has_full, has_zero, has_power, has_other, has_beyond, and_fold_true, and_fold_parts, or_fold_parts, or_fold_some, and_fold_le, or_fold_lt}
 
 -- what holds below n
-all_below : (P : ℕ → Type 0) (n : ℕ) → ((k : ℕ) → k < n → P k) → All P (below n)
+all_below : (P : ℕ → Type 0) (n : ℕ) → ((k : ℕ) → k < n → P k) → AllByRecursion P (below n)
 all_below P zero h = tt
 all_below P (suc n) h = (h n (omega arith), all_below P n (λ k l. h k (omega arith)))
 
-below_all : (P : ℕ → Type 0) (n : ℕ) → All P (below n) → (k : ℕ) → k < n → P k
+below_all : (P : ℕ → Type 0) (n : ℕ) → AllByRecursion P (below n) → (k : ℕ) → k < n → P k
 below_all P zero h k l = absurd (omega arith)
 below_all P (suc n) h k l =
     let rest : k < n → P k = below_all P n h.1 k in
     elim (cases_eq k n) [ inl e ↦ rw e h.0 | inr d ↦ rest (omega arith) ]
 
 -- what holds of all that pass
-all_kept : {X : Type 0} (t : X → Bool) (P : X → Type 0) (xs : List X) → All (λ x. t x ≡ true → P x) xs → All P (filter t xs)
+all_kept : {X : Type 0} (t : X → Bool) (P : X → Type 0) (xs : List X) → AllByRecursion (λ x. t x ≡ true → P x) xs → AllByRecursion P (filter t xs)
 all_kept t P [] h = tt
 all_kept t P (x ∷ xs) h = at (t x) h.0 (all_kept t P xs h.1)
   where
-    at : (b : Bool) → (b ≡ true → P x) → All P (filter t xs) → All P (cond b (x ∷ filter t xs) (filter t xs))
+    at : (b : Bool) → (b ≡ true → P x) → AllByRecursion P (filter t xs) → AllByRecursion P (cond b (x ∷ filter t xs) (filter t xs))
     at true e r = (e refl, r)
     at false e r = r
 
-kept_all : {X : Type 0} (t : X → Bool) (P : X → Type 0) (xs : List X) → All P (filter t xs) → All (λ x. t x ≡ true → P x) xs
+kept_all : {X : Type 0} (t : X → Bool) (P : X → Type 0) (xs : List X) → AllByRecursion P (filter t xs) → AllByRecursion (λ x. t x ≡ true → P x) xs
 kept_all t P [] h = tt
 kept_all t P (x ∷ xs) h = let r = at (t x) h in (r.0, kept_all t P xs r.1)
   where
-    at : (b : Bool) → All P (cond b (x ∷ filter t xs) (filter t xs)) → (b ≡ true → P x) × All P (filter t xs)
+    at : (b : Bool) → AllByRecursion P (cond b (x ∷ filter t xs) (filter t xs)) → (b ≡ true → P x) × AllByRecursion P (filter t xs)
     at true h = (λ _. h.0, h.1)
     at false h = (λ e. absurd (false≢true e), h)
 
 module _ (w : Network) where
-  all_cuts : (P : ℕ → Type 0) → ((s : ℕ) → Cut w s → P s) → All P (cuts w)
+  all_cuts : (P : ℕ → Type 0) → ((s : ℕ) → Cut w s → P s) → AllByRecursion P (cuts w)
   all_cuts P h = all_kept (is_cut w) P (below (2 ^ w.junctions)) (all_below _ (2 ^ w.junctions) (λ s l e.
       let parts = and_parts (has s w.pump) _ e in
       h s (record { inside = l; pump_in = parts.0; outlet_out = not-true _ parts.1 })))
 
-  cuts_all : (P : ℕ → Type 0) → All P (cuts w) → (s : ℕ) → Cut w s → P s
+  cuts_all : (P : ℕ → Type 0) → AllByRecursion P (cuts w) → (s : ℕ) → Cut w s → P s
   cuts_all P h s c = below_all _ (2 ^ w.junctions) (kept_all (is_cut w) P (below (2 ^ w.junctions)) h) s c.inside
       (and_from _ _ c.pump_in (not_from_false _ c.outlet_out))
 
@@ -58,12 +58,12 @@ module _ (c : ℕ → ℕ) where
   min_le i [] = omega arith
   min_le i (s ∷ ss) = omega (arith, min_le (min i (c s)) ss)
 
-  min_all : (i : ℕ) (ss : List ℕ) → All (λ s. fold (λ m t. min m (c t)) i ss ≤ c s) ss
+  min_all : (i : ℕ) (ss : List ℕ) → AllByRecursion (λ s. fold (λ m t. min m (c t)) i ss ≤ c s) ss
   min_all i [] = tt
   min_all i (s ∷ ss) = (omega (arith, min_le (min i (c s)) ss), min_all (min i (c s)) ss)
 
   -- it is i or is met
-  min_met : (P : ℕ → Type 0) (i : ℕ) (ss : List ℕ) → All P ss → (fold (λ m s. min m (c s)) i ss ≡ i) ⊎ ((s : ℕ) × P s × (c s ≡ fold (λ m s. min m (c s)) i ss))
+  min_met : (P : ℕ → Type 0) (i : ℕ) (ss : List ℕ) → AllByRecursion P ss → (fold (λ m s. min m (c s)) i ss ≡ i) ⊎ ((s : ℕ) × P s × (c s ≡ fold (λ m s. min m (c s)) i ss))
   min_met P i [] h = inl refl
   min_met P i (s ∷ ss) h = elim (min_met P (min i (c s)) ss h.1) [
     | inl e ↦ elim (cases_lt (c s) i) [ inl lt ↦ inr (s, h.0, omega arith) | inr le ↦ inl (omega arith) ]
@@ -128,10 +128,10 @@ module _ (w : Network) (wired : Wired w) where
   pub least_is : (s : ℕ) → Minimum w s → capacity w s ≡ least_capacity w
   least_is s h = omega (arith, least_le w s h.cut, least_greatest (capacity w s) h.least)
 
-  all_minimum : (P : ℕ → Type 0) → ((s : ℕ) → Minimum w s → P s) → All P (minimum_cuts w)
+  all_minimum : (P : ℕ → Type 0) → ((s : ℕ) → Minimum w s → P s) → AllByRecursion P (minimum_cuts w)
   all_minimum P h = all_kept _ P (cuts w) (all_cuts w _ (λ s c e. h s (is_minimum w s c (omega (arith, eqb-true _ _ e)))))
 
-  minimum_all : (P : ℕ → Type 0) → All P (minimum_cuts w) → (s : ℕ) → Minimum w s → P s
+  minimum_all : (P : ℕ → Type 0) → AllByRecursion P (minimum_cuts w) → (s : ℕ) → Minimum w s → P s
   minimum_all P h s l = cuts_all w _ (kept_all _ P (cuts w) h) s l.cut (eq-eqb _ _ (least_is s l))
 
   pub far_inside : (report_of w).far < 2 ^ w.junctions

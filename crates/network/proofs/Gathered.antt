@@ -1,6 +1,6 @@
 -- The theorems, gathered.
 use Rattle.std.proofs.Common.{◌≡◌, ℕ, true, List, sym, refl, ◌∙◌, arith}
-use Rattle.std.specs.List.{AllByRecursion as All}
+use Rattle.std.specs.List.{AllByRecursion}
 use Rattle.std.proofs.lemmas.Int.{ints}
 use Rattle.std.proofs.lemmas.Bool.{and_parts, false≢true}
 use Rattle.network.specs.declared.valve.Valve.{Valve}
@@ -70,7 +70,7 @@ governing_pipes_of w wired k = record {
     valve : governing w (report_of w) k ≡ true → (pipe w k).valve ≡ Open
     valve e = open_is (pipe w k).valve (and_parts (is_open (pipe w k).valve) _ e).0
 
-pub marked_cases_lem : All Holds marked
+pub marked_cases_lem : AllByRecursion Holds marked
 unfolding least_capacity report_of
 marked_cases_lem = (
   (refl, refl, refl),

@@ -1,7 +1,7 @@
 -- Greatest flows: that there is one, and the report by what its pump reaches and what does not reach its outlet.
 use Rattle.std.proofs.Common.{◌≡◌, ℕ, zero, suc, ◌+◌, ◌<◌, ◌≤◌, true, false, eqb, List, [], ◌∷◌, pos, ◌+ℤ◌, ◌≤ℤ◌, sym, refl, ap, ◌∙◌, inl, inr, arith}
 use lib.ListN.{get_or-replicate, length-replicate}
-use Rattle.std.specs.List.{AllByRecursion as All}
+use Rattle.std.specs.List.{AllByRecursion}
 use Rattle.std.proofs.lemmas.Int.{ints}
 use Rattle.std.proofs.lemmas.Bool.{cases_Bool, eq-eqb, ne_eqb, not_from_false, not-true, both_ways}
 use Rattle.network.specs.declared.step.Step.{Step}
@@ -46,7 +46,7 @@ module _ (w : Network) (wired : Wired w) (f g : List ℕ) (c : ℕ) (flow : Flow
 
 -- what a path from the pump to the outlet takes more is a flow of so much more
 module _ (w : Network) (wired : Wired w) (f : List ℕ) (flow : Flow w f) (c : ℕ) (ss : List Step) (path : Path w f w.pump ss w.outlet)
-    (takes : All (λ s. c ≤ weight w f s) ss) where
+    (takes : AllByRecursion (λ s. c ≤ weight w f s) ss) where
   within : Within w (pushed f c ss)
   within = path_within w f w.pump w.outlet c ss path takes flow.within
 
@@ -60,7 +60,7 @@ module _ (w : Network) (wired : Wired w) (f : List ℕ) (flow : Flow w f) (c : �
   augmented_value = shifted_value w wired f (pushed f c ss) c flow within shifts
 
 -- a path takes one litre more
-path_one : (w : Network) (f : List ℕ) (a : ℕ) (ss : List Step) (b : ℕ) → Path w f a ss b → All (λ s. 1 ≤ weight w f s) ss
+path_one : (w : Network) (f : List ℕ) (a : ℕ) (ss : List Step) (b : ℕ) → Path w f a ss b → AllByRecursion (λ s. 1 ≤ weight w f s) ss
 path_one w f a [] b p = tt
 path_one w f a (s ∷ ss) b p = (omega (arith, p.0.heavy), path_one w f a ss (tail w s) p.3)
 

@@ -1,6 +1,6 @@
 -- Pushing an amount along a path.
 use Rattle.std.proofs.Common.{◌≡◌, ℕ, ◌+◌, ◌-◌, ◌<◌, ◌≤◌, true, eqb, ◌≢◌, List, [], ◌∷◌, length, set, sym, refl, ap, ◌∙◌, inl, inr, arith, length-set, get_or-set_other, get_or-set_same}
-use Rattle.std.specs.List.{AllByRecursion as All}
+use Rattle.std.specs.List.{AllByRecursion}
 use Rattle.std.proofs.lemmas.Bool.{cases_eq}
 use Rattle.network.specs.declared.step.Direction.{Direction}
 use Rattle.network.specs.declared.step.Direction.TheVariants.{Along, Against}
@@ -28,7 +28,7 @@ module _ (f : List ℕ) (i x m : ℕ) (here : i < length f) (there : i < m) wher
       (λ k l d. ap (only (eqb (e k) j)) (get_or-set_other f i k x 0 d))
       ∙ ap (λ y. total m (λ k. only (eqb (e k) j) (carried f k)) + only (eqb (e i) j) y) same
 
-all_both : {X : Type 0} (P Q R : X → Type 0) → ((x : X) → P x → Q x → R x) → (xs : List X) → All P xs → All Q xs → All R xs
+all_both : {X : Type 0} (P Q R : X → Type 0) → ((x : X) → P x → Q x → R x) → (xs : List X) → AllByRecursion P xs → AllByRecursion Q xs → AllByRecursion R xs
 all_both P Q R f [] p q = tt
 all_both P Q R f (x ∷ xs) p q = (f x p.0 q.0, all_both P Q R f xs p.1 q.1)
 
@@ -45,7 +45,7 @@ Leads w a (s ∷ ss) b = (head w s ≡ b) × Leads w a ss (tail w s)
 -- no pipe is used twice
 abbrev pub Once : List Step → Type 0
 Once [] = Unit {0}
-Once (s ∷ ss) = All (λ t. t.pipe ≢ s.pipe) ss × Once ss
+Once (s ∷ ss) = AllByRecursion (λ t. t.pipe ≢ s.pipe) ss × Once ss
 
 along_le : (v : Valve) (l x c : ℕ) → x ≤ room v l → c ≤ room v (l - x) → x + c ≤ room v l
 along_le Open l x c h k = omega arith
@@ -110,14 +110,14 @@ module _ (w : Network) (c : ℕ) where
       same : carried (push f c s) t.pipe ≡ carried f t.pipe
       same = get_or-set_other f s.pipe t.pipe (moved s.direction (carried f s.pipe) c) 0 d
 
-  push_others : (f : List ℕ) (s : Step) (ss : List Step) → All (λ t. t.pipe ≢ s.pipe) ss → All (Takes w f c) ss → All (Takes w (push f c s) c) ss
+  push_others : (f : List ℕ) (s : Step) (ss : List Step) → AllByRecursion (λ t. t.pipe ≢ s.pipe) ss → AllByRecursion (Takes w f c) ss → AllByRecursion (Takes w (push f c s) c) ss
   push_others f s ss o t = all_both _ _ _ (push_other f s) ss o t
 
-  all_within : (ss : List Step) (f : List ℕ) → Within w f → Once ss → All (Takes w f c) ss → Within w (pushed f c ss)
+  all_within : (ss : List Step) (f : List ℕ) → Within w f → Once ss → AllByRecursion (Takes w f c) ss → Within w (pushed f c ss)
   all_within [] f h o t = h
   all_within (s ∷ ss) f h o t = all_within ss (push f c s) (push_within f s h t.0) o.1 (push_others f s ss o.0 t.1)
 
-  all_shifts : (ss : List Step) (f : List ℕ) (a b : ℕ) → Within w f → Leads w a ss b → Once ss → All (Takes w f c) ss → Shifts w f (pushed f c ss) a b c
+  all_shifts : (ss : List Step) (f : List ℕ) (a b : ℕ) → Within w f → Leads w a ss b → Once ss → AllByRecursion (Takes w f c) ss → Shifts w f (pushed f c ss) a b c
   all_shifts [] f a b h l o t j = rw l (omega arith)
   all_shifts (s ∷ ss) f a b h l o t j =
       let last = push_shifts f s h t.0 j in
@@ -151,12 +151,12 @@ module _ (w : Network) (f : List ℕ) (u c : ℕ) (s : Step) (side : has u (tail
 
 -- and so do steps that lead from one side back to it
 module _ (w : Network) (u c : ℕ) where
-  all_side : (ss : List Step) (f : List ℕ) (a b : ℕ) → Sealed w f u → Leads w a ss b → All (Takes w f c) ss → has u a ≡ true → has u b ≡ true
+  all_side : (ss : List Step) (f : List ℕ) (a b : ℕ) → Sealed w f u → Leads w a ss b → AllByRecursion (Takes w f c) ss → has u a ≡ true → has u b ≡ true
   all_side [] f a b cl l t e = rw l e
   all_side (s ∷ ss) f a b cl l t e =
       cl (tail w s) b (record { step = s; residual = t.0.residual; starts = refl; ends = l.0 }) (all_side ss f a (tail w s) cl l.1 t.1 e)
 
-  all_sealed : (ss : List Step) (f : List ℕ) (a b : ℕ) → Sealed w f u → Leads w a ss b → Once ss → All (Takes w f c) ss → has u a ≡ has u b → Sealed w (pushed f c ss) u
+  all_sealed : (ss : List Step) (f : List ℕ) (a b : ℕ) → Sealed w f u → Leads w a ss b → Once ss → AllByRecursion (Takes w f c) ss → has u a ≡ has u b → Sealed w (pushed f c ss) u
   all_sealed [] f a b cl l o t e = cl
   all_sealed (s ∷ ss) f a b cl l o t e =
       let last : has u (tail w s) ≡ true → has u b ≡ true = cl (tail w s) b (record { step = s; residual = t.0.residual; starts = refl; ends = l.0 }) in
@@ -170,7 +170,7 @@ module _ (w : Network) (f : List ℕ) (a : ℕ) where
   path_leads [] b p = p
   path_leads (s ∷ ss) b p = (p.1, path_leads ss (tail w s) p.3)
 
-  path_takes : (c : ℕ) (ss : List Step) (b : ℕ) → Path w f a ss b → All (λ s. c ≤ weight w f s) ss → All (Takes w f c) ss
+  path_takes : (c : ℕ) (ss : List Step) (b : ℕ) → Path w f a ss b → AllByRecursion (λ s. c ≤ weight w f s) ss → AllByRecursion (Takes w f c) ss
   path_takes c [] b p h = tt
   path_takes c (s ∷ ss) b p h = (record { residual = p.0; weighs = h.0 }, path_takes c ss (tail w s) p.3 h.1)
 
@@ -186,7 +186,7 @@ module _ (w : Network) (f : List ℕ) (a : ℕ) where
   ends_apart Against Along p b e h t = t e
   ends_apart Against Against p b e h t = h e
 
-  others : (s : Step) (b : ℕ) → head w s ≡ b → (ss : List Step) (x : ℕ) → Path w f a ss x → Fresh w a b ss → All (λ t. t.pipe ≢ s.pipe) ss
+  others : (s : Step) (b : ℕ) → head w s ≡ b → (ss : List Step) (x : ℕ) → Path w f a ss x → Fresh w a b ss → AllByRecursion (λ t. t.pipe ≢ s.pipe) ss
   others s b e [] x p n = tt
   others s b e (t ∷ ts) x p n = (
     λ q. ends_apart t.direction s.direction (pipe w s.pipe) b e
@@ -198,7 +198,7 @@ module _ (w : Network) (f : List ℕ) (a : ℕ) where
   path_once [] b p = tt
   path_once (s ∷ ss) b p = (others s b p.1 ss (tail w s) p.3 p.2, path_once ss (tail w s) p.3)
 
-module _ (w : Network) (f : List ℕ) (a b c : ℕ) (ss : List Step) (path : Path w f a ss b) (takes : All (λ s. c ≤ weight w f s) ss) where
+module _ (w : Network) (f : List ℕ) (a b c : ℕ) (ss : List Step) (path : Path w f a ss b) (takes : AllByRecursion (λ s. c ≤ weight w f s) ss) where
   -- what is pushed along a path by at most each weight keeps within the limits, and moves c from a to b
   pub path_within : Within w f → Within w (pushed f c ss)
   path_within h = all_within w c ss f h (path_once w f a ss b path) (path_takes w f a c ss b path takes)

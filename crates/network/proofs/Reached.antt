@@ -1,7 +1,7 @@
 -- Which junctions are reached: the sets of those, and paths to them.
 use Rattle.std.proofs.Common.{◌≡◌, ℕ, zero, suc, ◌+◌, ◌^◌, ◌<◌, ◌≤◌, Bool, true, false, not, ◌≢◌, ◌⊎◌, List, [], ◌∷◌, Decides, sym, refl, ◌∙◌, inl, inr, arith}
 use lib.Bits.{bit_or}
-use Rattle.std.specs.List.{AllByRecursion as All}
+use Rattle.std.specs.List.{AllByRecursion}
 use Rattle.std.proofs.lemmas.Nat.{pow_below, or_lt}
 use Rattle.std.proofs.ByRecursion.{All-weaker}
 use Rattle.std.proofs.lemmas.Bool.{cases_Bool, cases_eq, cases_lt, or_cases, or_left, or_right, not_from_false, not-true, both_ways}
@@ -120,7 +120,7 @@ module _ (w : Network) (f : List ℕ) (s : ℕ) where
 
 -- a path from a to k that stays in the set
 abbrev PathIn : Network → List ℕ → ℕ → ℕ → ℕ → Type 0
-PathIn w f a s k = (ss : List Step) × Path w f a ss k × All (λ t. has s (head w t) ≡ true) ss
+PathIn w f a s k = (ss : List Step) × Path w f a ss k × AllByRecursion (λ t. has s (head w t) ≡ true) ss
 
 -- a set with a, to all junctions of which paths lead inside it
 record Found (w : Network) (f : List ℕ) (a s : ℕ) : Type 0 where

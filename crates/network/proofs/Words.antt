@@ -2,7 +2,7 @@
 use Rattle.std.proofs.Common.{◌≡◌, ℕ, zero, suc, ◌+◌, ◌-◌, ◌/◌, ◌%◌, ◌^◌, ◌<◌, ◌≤◌, min, max, Bool, true, false, ◌&&◌, ◌||◌, eqb, ◌≢◌, ◌⊎◌, List, [], ◌∷◌, fold, sym, refl, ap, ◌∙◌, inl, inr, mod-eq_of_lt, arith, pow_mono}
 use native.Mathlib.Nat.{div-eq_of_lt}
 use lib.Bits.{bit_and, bit_or, and_step, or_step, or_add_and}
-use Rattle.std.specs.List.{AllByRecursion as All}
+use Rattle.std.specs.List.{AllByRecursion}
 use Rattle.std.proofs.lemmas.Nat.{and_shr, or_shr, and_mask, shr-shr, pow_below, or_lt, and_le_l, and_le_r}
 use Rattle.std.proofs.lemmas.Bool.{cases_eq, cases_Bool, both_ways, and_parts, and_from, or_parts, or_cases, or_right}
 use Rattle.std.proofs.lemmas.Bool.Decides.{nat_tests}
@@ -73,18 +73,18 @@ same_word (suc n) a b l m h =
     let high = same_word n (a / 2) (b / 2) (omega arith) (omega arith) (λ k d. sym (has_half a k) ∙ h (suc k) (omega arith) ∙ has_half b k) in
     omega arith
 
-pub and_fold_true : (k i : ℕ) (ss : List ℕ) → has i k ≡ true → All (λ s. has s k ≡ true) ss → has (fold bit_and i ss) k ≡ true
+pub and_fold_true : (k i : ℕ) (ss : List ℕ) → has i k ≡ true → AllByRecursion (λ s. has s k ≡ true) ss → has (fold bit_and i ss) k ≡ true
 and_fold_true k i [] e h = e
 and_fold_true k i (s ∷ ss) e h = and_fold_true k (bit_and i s) ss (has_and i s k ∙ and_from _ _ e h.0) h.1
 
-pub and_fold_parts : (k i : ℕ) (ss : List ℕ) → has (fold bit_and i ss) k ≡ true → (has i k ≡ true) × All (λ s. has s k ≡ true) ss
+pub and_fold_parts : (k i : ℕ) (ss : List ℕ) → has (fold bit_and i ss) k ≡ true → (has i k ≡ true) × AllByRecursion (λ s. has s k ≡ true) ss
 and_fold_parts k i [] e = (e, tt)
 and_fold_parts k i (s ∷ ss) e =
     let rest = and_fold_parts k (bit_and i s) ss e in
     let both = and_parts (has i k) (has s k) (sym (has_and i s k) ∙ rest.0) in
     (both.0, (both.1, rest.1))
 
-pub or_fold_parts : (k i : ℕ) (ss : List ℕ) → has (fold bit_or i ss) k ≡ false → (has i k ≡ false) × All (λ s. has s k ≡ false) ss
+pub or_fold_parts : (k i : ℕ) (ss : List ℕ) → has (fold bit_or i ss) k ≡ false → (has i k ≡ false) × AllByRecursion (λ s. has s k ≡ false) ss
 or_fold_parts k i [] e = (e, tt)
 or_fold_parts k i (s ∷ ss) e =
     let rest = or_fold_parts k (bit_or i s) ss e in
@@ -95,11 +95,11 @@ pub and_fold_le : (i : ℕ) (ss : List ℕ) → fold bit_and i ss ≤ i
 and_fold_le i [] = omega arith
 and_fold_le i (s ∷ ss) = omega (arith, and_fold_le (bit_and i s) ss, and_le_l i s)
 
-pub or_fold_lt : (n i : ℕ) (ss : List ℕ) → i < 2 ^ n → All (λ s. s < 2 ^ n) ss → fold bit_or i ss < 2 ^ n
+pub or_fold_lt : (n i : ℕ) (ss : List ℕ) → i < 2 ^ n → AllByRecursion (λ s. s < 2 ^ n) ss → fold bit_or i ss < 2 ^ n
 or_fold_lt n i [] l h = l
 or_fold_lt n i (s ∷ ss) l h = or_fold_lt n (bit_or i s) ss (or_lt n i s l h.0) h.1
 
-pub or_fold_some : (P : ℕ → Type 0) (k i : ℕ) (ss : List ℕ) → has (fold bit_or i ss) k ≡ true → All P ss → (has i k ≡ true) ⊎ ((s : ℕ) × P s × (has s k ≡ true))
+pub or_fold_some : (P : ℕ → Type 0) (k i : ℕ) (ss : List ℕ) → has (fold bit_or i ss) k ≡ true → AllByRecursion P ss → (has i k ≡ true) ⊎ ((s : ℕ) × P s × (has s k ≡ true))
 or_fold_some P k i [] e h = inl e
 or_fold_some P k i (s ∷ ss) e h = elim (or_fold_some P k (bit_or i s) ss e h.1) [
   | inl b ↦ elim (or_cases (has i k) (has s k) (sym (has_or i s k) ∙ b)) [ inl x ↦ inl x | inr y ↦ inr (s, h.0, y) ]

@@ -1,6 +1,6 @@
 -- A network: junctions joined by pipes with limits and valves.
 use Rattle.std.specs.Prelude.{ℕ, ◌<◌, ◌≤◌, ◌≢◌, List, [], length}
-use Rattle.std.specs.List.{AllByRecursion as All}
+use Rattle.std.specs.List.{AllByRecursion}
 use Rattle.network.specs.declared.valve.Valve.{Valve}
 
 -- A pipe leads from one junction to another, and lets through at most its limit, in litres a minute, while its valve is open.
@@ -28,7 +28,7 @@ pub record Wired (w : Network) : Type 0 where
   pub pump_in : w.pump < w.junctions
   pub outlet_in : w.outlet < w.junctions
   pub apart : w.pump ≢ w.outlet
-  pub joins : All (Joins w.junctions) w.pipes
+  pub joins : AllByRecursion (Joins w.junctions) w.pipes
 
 pub record Limited (p : Pipe) : Type 0 where
   pub some : 1 ≤ p.limit
@@ -40,7 +40,7 @@ pub record Sound (w : Network) : Type 0 where
   pub two : 2 ≤ w.junctions
   pub most : w.junctions ≤ 64
   pub held : length w.pipes ≤ 512
-  pub limited : All Limited w.pipes
+  pub limited : AllByRecursion Limited w.pipes
 
 -- two junctions, and nothing between them
 abbrev pub bare : Network

@@ -1,5 +1,5 @@
 ghost use Rattle.std.specs.Prelude.{ℕ, List};
-ghost use Rattle.std.specs.List.{AllByRecursion as All};
+ghost use Rattle.std.specs.List.{AllByRecursion};
 ghost use Rattle.network.specs.Cases.{Holds, marked};
 ghost use Rattle.network.specs.Flows.{Greatest};
 ghost use Rattle.network.specs.Network.{Network, Wired};
@@ -54,5 +54,5 @@ pub fn governing_pipes()
 
 // Ten cases worked out by the definitions.
 pub fn marked_cases()
-    ensures { All Holds marked }
+    ensures { AllByRecursion Holds marked }
 {}

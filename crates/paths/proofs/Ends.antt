@@ -1,6 +1,6 @@
 -- Rounds, and what the labels say at the end.
 use Rattle.std.proofs.Common.{◌≡◌, ℕ, suc, ◌<◌, ◌≤◌, List, [], ◌∷◌, length, Some, None, Option, sym, refl, ap, ◌∙◌, subst, arith}
-use Rattle.std.specs.List.{AllByRecursion as All}
+use Rattle.std.specs.List.{AllByRecursion}
 use Rattle.network.specs.declared.step.Step.{Step}
 use Rattle.network.specs.Network.{Network}
 use Rattle.network.specs.Residual.{tail, head, weight, Residual}
@@ -46,7 +46,7 @@ module _ {Λ : Type 0} {good : Λ → Λ → Type 0} {start none : Λ} {extended
       let e : p ≡ q = some_equal p q (via x) l.0 r.0 in
       ap suc (chain_size ps qs (tail w p) l.1 (subst (λ (z : Step). Chain w a via qs (tail w z)) (sym e) r.1))
 
-  not_again : (x k : ℕ) → ((zs : List Step) → Chain w a via zs x → length zs ≡ k) → (qs : List Step) (y : ℕ) → Chain w a via qs y → length qs < k → All (λ q. head w q ≡ x → ⊥) qs
+  not_again : (x k : ℕ) → ((zs : List Step) → Chain w a via zs x → length zs ≡ k) → (qs : List Step) (y : ℕ) → Chain w a via qs y → length qs < k → AllByRecursion (λ q. head w q ≡ x → ⊥) qs
   not_again x k u [] y h l = tt
   not_again x k u (q ∷ qs) y h l = (
     (λ e. let d : length (q ∷ qs) ≡ k = u (q ∷ qs) (subst (λ (z : ℕ). Chain w a via (q ∷ qs) z) (sym (inv.came y q h.0).0 ∙ e) h) in omega arith),

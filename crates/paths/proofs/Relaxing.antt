@@ -1,6 +1,6 @@
 -- A relaxed step keeps what the search keeps.
 use Rattle.std.proofs.Common.{◌≡◌, ℕ, suc, ◌<◌, ◌≤◌, ◌⊎◌, List, [], ◌∷◌, Some, Option, sym, refl, ap, ◌∙◌, subst, inl, inr, arith}
-use Rattle.std.specs.List.{AllByRecursion as All}
+use Rattle.std.specs.List.{AllByRecursion}
 use Rattle.std.proofs.lemmas.Bool.{cases_eq}
 use Rattle.network.specs.declared.step.Step.{Step}
 use Rattle.network.specs.Network.{Network}
@@ -30,7 +30,7 @@ module _ {Λ : Type 0} {good : Λ → Λ → Type 0} {start none : Λ} {extended
   ]
 
   -- a junction on a path has a label at least as good as the path
-  on_path : (y : ℕ) (ps : List Step) (x : ℕ) → Path w f a ps x → Over w f a good start extended at ps → good (at y) (length_of w f start extended ps) ⊎ All (λ q. head w q ≡ y → ⊥) ps
+  on_path : (y : ℕ) (ps : List Step) (x : ℕ) → Path w f a ps x → Over w f a good start extended at ps → good (at y) (length_of w f start extended ps) ⊎ AllByRecursion (λ q. head w q ≡ y → ⊥) ps
   on_path y [] x h o = inr tt
   on_path y (q ∷ qs) x h o = elim (cases_eq (head w q) y) [
     | inl e ↦ inl (subst (λ (z : ℕ). good (at z) (length_of w f start extended (q ∷ qs))) e o.0)
@@ -80,7 +80,7 @@ module _ {Λ : Type 0} {good : Λ → Λ → Type 0} {start none : Λ} {extended
     strict' : good (at (head w p)) (at (tail w p)) → ⊥
     strict' g = strict (laws.trans _ _ _ g (slower p pres.inside))
 
-    not_on_chain : (ps : List Step) (x : ℕ) → Chain w a via ps x → (good (at (head w p)) (at x) → ⊥) → All (λ q. head w q ≡ head w p → ⊥) ps
+    not_on_chain : (ps : List Step) (x : ℕ) → Chain w a via ps x → (good (at (head w p)) (at x) → ⊥) → AllByRecursion (λ q. head w q ≡ head w p → ⊥) ps
     not_on_chain [] x h k = tt
     not_on_chain (q ∷ qs) x h k =
         let c = inv.came x q h.0 in (
@@ -109,7 +109,7 @@ module _ {Λ : Type 0} {good : Λ → Λ → Type 0} {start none : Λ} {extended
       witness_new : Witness w f a good start extended at' count' (head w p)
       witness_new =
           let o = tail_reached.0 in
-          let apart : All (λ q. head w q ≡ head w p → ⊥) o.steps = elim (on_path (head w p) o.steps (tail w p) o.leads o.over) [ inl g ↦ absurd (strict' (subst (λ (l : Λ). good (at (head w p)) l) (sym o.is) g)) | inr all ↦ all ] in
+          let apart : AllByRecursion (λ q. head w q ≡ head w p → ⊥) o.steps = elim (on_path (head w p) o.steps (tail w p) o.leads o.over) [ inl g ↦ absurd (strict' (subst (λ (l : Λ). good (at (head w p)) l) (sym o.is) g)) | inr all ↦ all ] in
           record {
             steps = p ∷ o.steps;
             leads = (pres, refl, (not_source, apart), o.leads);
@@ -121,7 +121,7 @@ module _ {Λ : Type 0} {good : Λ → Λ → Type 0} {start none : Λ} {extended
       witness_old : (x : ℕ) → (x ≡ head w p → ⊥) → Witness w f a good start extended at count x → Witness w f a good start extended at' count' x
       witness_old x k o = record { steps = o.steps; leads = o.leads; is = at_old x k ∙ o.is; counted = count-old x k ∙ o.counted; over = over_up o.steps o.over }
 
-      chain_same : (ps : List Step) (x : ℕ) → Chain w a via ps x → All (λ q. head w q ≡ head w p → ⊥) ps → Chain w a via' ps x
+      chain_same : (ps : List Step) (x : ℕ) → Chain w a via ps x → AllByRecursion (λ q. head w q ≡ head w p → ⊥) ps → Chain w a via' ps x
       chain_same [] x h all = (h.0, via-old x (λ e. not_source (sym e ∙ h.0)) ∙ h.1)
       chain_same (q ∷ qs) x h all = (via-old x (λ e. all.0 ((inv.came x q h.0).0 ∙ e)) ∙ h.0, chain_same qs (tail w q) h.1 all.1)
 

@@ -1,7 +1,7 @@
 -- Paths are short, and their lengths in range.
 use Rattle.std.proofs.Common.{◌≡◌, ℕ, zero, suc, ◌<◌, ◌≤◌, List, [], ◌∷◌, map, length, sym, refl, ◌∙◌, subst, inl, inr, arith}
 use lib.ListN.{length-map}
-use Rattle.std.specs.List.{AllByRecursion as All}
+use Rattle.std.specs.List.{AllByRecursion}
 use Rattle.network.specs.declared.step.Step.{Step}
 use Rattle.network.specs.Network.{Network}
 use Rattle.network.specs.Residual.{tail, head, weight, size}
@@ -17,16 +17,16 @@ pub record Sound (w : Network) (f : List ℕ) : Type 0 where
   pub light : (s : Step) → s.pipe < size w → weight w f s ≤ 60000
 
 module _ {w : Network} {f : List ℕ} (sound : Sound w f) (a : ℕ) (a_in : a < w.junctions) where
-  fresh_heads : (b : ℕ) (ss : List Step) → All (λ s. head w s ≡ b → ⊥) ss → All (λ y. y ≡ b → ⊥) (map (head w) ss)
+  fresh_heads : (b : ℕ) (ss : List Step) → AllByRecursion (λ s. head w s ≡ b → ⊥) ss → AllByRecursion (λ y. y ≡ b → ⊥) (map (head w) ss)
   fresh_heads b [] h = tt
   fresh_heads b (s ∷ ss) h = (h.0, fresh_heads b ss h.1)
 
   -- the ends of a path's steps are junctions, apart, and none of them a
-  path_heads : (ss : List Step) (b : ℕ) → Path w f a ss b → Apart (map (head w) ss) × All (λ y. y < w.junctions) (map (head w) ss) × All (λ y. y ≡ a → ⊥) (map (head w) ss)
+  path_heads : (ss : List Step) (b : ℕ) → Path w f a ss b → Apart (map (head w) ss) × AllByRecursion (λ y. y < w.junctions) (map (head w) ss) × AllByRecursion (λ y. y ≡ a → ⊥) (map (head w) ss)
   path_heads [] b h = (tt, tt, tt)
   path_heads (s ∷ ss) b h =
       let r = path_heads ss (tail w s) h.3 in (
-        (fresh_heads (head w s) ss (subst (λ (z : ℕ). All (λ q. head w q ≡ z → ⊥) ss) (sym h.1) h.2.1), r.0),
+        (fresh_heads (head w s) ss (subst (λ (z : ℕ). AllByRecursion (λ q. head w q ≡ z → ⊥) ss) (sym h.1) h.2.1), r.0),
         ((sound.joins s h.0.inside).1, r.1),
         ((λ e. h.2.0 (sym h.1 ∙ e)), r.2),
       )
@@ -41,7 +41,7 @@ module _ {w : Network} {f : List ℕ} (sound : Sound w f) (a : ℕ) (a_in : a < 
   short63 ss b h = let k = short ss b h in let l = sound.few in omega arith
 
   -- a path that misses a junction has a step fewer
-  pub missing : (ss : List Step) (b x : ℕ) → Path w f a ss b → x < w.junctions → (x ≡ a → ⊥) → All (λ s. head w s ≡ x → ⊥) ss → suc (suc (length ss)) ≤ w.junctions
+  pub missing : (ss : List Step) (b x : ℕ) → Path w f a ss b → x < w.junctions → (x ≡ a → ⊥) → AllByRecursion (λ s. head w s ≡ x → ⊥) ss → suc (suc (length ss)) ≤ w.junctions
   missing ss b x h x-in k all =
       let r = path_heads ss b h in
       let m : suc (suc (length (map (head w) ss))) ≤ w.junctions = room w.junctions (x ∷ (a ∷ map (head w) ss)) (((λ e. k (sym e)), fresh_heads x ss all), (r.2, r.0)) (x-in, (a_in, r.1)) in

@@ -1,6 +1,6 @@
 -- One step after the other.
 use Rattle.std.proofs.Common.{◌≡◌, ℕ, suc, ◌+◌, ◌*◌, ◌<◌, ◌≤◌, List, [], ◌∷◌, ◌++◌, map, length, get_or, take, sym, ap, ◌∙◌, subst, mul-le-mul_right, suc-mul, arith}
-use Rattle.std.specs.List.{AllByRecursion as All}
+use Rattle.std.specs.List.{AllByRecursion}
 use Rattle.std.proofs.lemmas.Nat.{mul-le}
 use Rattle.std.proofs.ByRecursion.{All-get_or}
 use Rattle.std.proofs.lemmas.List.{length-take-le, get_or-map, get_or-take, map_more}
@@ -19,7 +19,7 @@ use Rattle.rating.proofs.Writing.{then}
 use Rattle.writing.proofs.Puts.{put_none}
 use Rattle.texts.proofs.Reading.{steps_length}
 
-pub step_at : (steps : List TimedPattern) (n k pipes : ℕ) (d : TimedPattern) → k < n → n ≤ length steps → All (SoundStep pipes) (map timed (take n steps)) → SoundStep pipes (timed (get_or steps k d))
+pub step_at : (steps : List TimedPattern) (n k pipes : ℕ) (d : TimedPattern) → k < n → n ≤ length steps → AllByRecursion (SoundStep pipes) (map timed (take n steps)) → SoundStep pipes (timed (get_or steps k d))
 step_at steps n k pipes d h i all =
     let long : length (take n steps) ≡ n = length-take-le n steps i in
     let each : SoundStep pipes (get_or (map timed (take n steps)) k (timed d)) = All-get_or (SoundStep pipes) (map timed (take n steps)) k (timed d) (omega (arith, steps_length steps n i)) all in

@@ -1,5 +1,5 @@
 ghost use Rattle.std.specs.Prelude.{◌≡◌, ◌+◌, ◌*◌, ◌<◌, ◌≤◌, true, List, map, length, take, Ok, Err};
-ghost use Rattle.std.specs.List.{AllByRecursion as All};
+ghost use Rattle.std.specs.List.{AllByRecursion};
 ghost use Rattle.network.specs.Network.{Network};
 ghost use Rattle.network.specs.Reports.{report_of};
 ghost use Rattle.network.specs.Residual.{size};
@@ -94,7 +94,7 @@ fn rate_steps<E: Engine>(
     requires joined { extent.now.junctions ≡ (E.Engine.meaning engine.old).junctions }
     requires sized { extent.now.pipes ≡ size (E.Engine.meaning engine.old) }
     requires long { extent.now.steps ≤ length steps.now }
-    requires sound { All (SoundStep extent.now.pipes) (map timed (take extent.now.steps steps.now)) }
+    requires sound { AllByRecursion (SoundStep extent.now.pipes) (map timed (take extent.now.steps steps.now)) }
     requires fits { extent.now.steps * (extent.now.junctions + extent.now.pipes + 29) ≤ length page.old }
     ensures means { E.Engine.meaning engine.new ≡ last_network (E.Engine.meaning engine.old) (map timed (take extent.now.steps steps.now)) }
     ensures written { page.new ≡ put_at 0 (all_lines 1 (E.Engine.meaning engine.old) (map timed (take extent.now.steps steps.now))) page.old }

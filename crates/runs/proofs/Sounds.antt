@@ -2,7 +2,7 @@
 use Rattle.std.proofs.Common.{◌≡◌, ℕ, ◌<◌, ◌≤◌, min, cond, ◌&&◌, eqb, ltb, leb, List, [], ◌∷◌, length, Some, None, Ok, Err, Option, Result, refl, arith, length-set}
 use Rattle.std.proofs.ByRecursion.{All-get_or, All-set}
 use Rattle.std.proofs.lemmas.Bool.{cond_both, and_parts, ltb-true, leb-true}
-use Rattle.std.specs.List.{AllByRecursion as All}
+use Rattle.std.specs.List.{AllByRecursion}
 use Rattle.network.specs.declared.valve.Valve.{Valve}
 use Rattle.network.specs.Changes as changes
 use Rattle.network.specs.Changes.{with_pipe, with_limit, with_valve}
@@ -22,7 +22,7 @@ use Rattle.runs.specs.Networks.{accepted, accepted_sheet, next_network, network_
 use Rattle.runs.proofs.Sheets.{loaded_sound}
 
 -- what a pattern leaves of each pipe, it leaves of all
-all_lettered : (P : Pipe → Type 0) → ((s : Option Setting) (p : Pipe) → P p → P (set_by s p)) → (bs : List ℕ) (ps : List Pipe) → All P ps → All P (lettered bs ps)
+all_lettered : (P : Pipe → Type 0) → ((s : Option Setting) (p : Pipe) → P p → P (set_by s p)) → (bs : List ℕ) (ps : List Pipe) → AllByRecursion P ps → AllByRecursion P (lettered bs ps)
 all_lettered P h [] ps a = a
 all_lettered P h (b ∷ bs) [] a = a
 all_lettered P h (b ∷ bs) (p ∷ ps) a = (h (setting_of b) p a.0, all_lettered P h bs ps a.1)

@@ -1,6 +1,6 @@
 -- A line and its line feed, written and read.
 use Rattle.std.proofs.Common.{◌≡◌, ℕ, zero, suc, ◌+◌, ◌*◌, ◌/◌, ◌%◌, ◌<◌, ◌≤◌, Bool, true, false, cond, ◌&&◌, eqb, leb, List, [], ◌∷◌, ◌++◌, length, get_or, take, drop, Some, None, Ok, Err, Option, Result, sym, refl, ap, ◌∙◌, inl, inr, append_assoc, arith, length-append}
-use Rattle.std.specs.List.{prefix_len, AllByRecursion as All}
+use Rattle.std.specs.List.{prefix_len, AllByRecursion}
 use Rattle.std.proofs.lemmas.Bool.Decides.{nat_tests, eqb_tells}
 use Rattle.std.proofs.ByRecursion.{All-append}
 use Rattle.std.proofs.lemmas.List.{take_at, drop_at, length-take-le, take-append-drop, length-drop, drop-drop, drop_more}
@@ -15,7 +15,7 @@ use Rattle.texts.proofs.Spelled.{spelled}
 
 -- no byte is a line feed
 abbrev pub Feedless : List ℕ → Type 0
-Feedless bs = All (λ (b : ℕ). b ≡ 10 → ⊥) bs
+Feedless bs = AllByRecursion (λ (b : ℕ). b ≡ 10 → ⊥) bs
 
 pub feedless_then : (xs ys : List ℕ) → Feedless xs → Feedless ys → Feedless (xs ++ ys)
 feedless_then xs ys p q = All-append (λ (b : ℕ). b ≡ 10 → ⊥) xs ys p q

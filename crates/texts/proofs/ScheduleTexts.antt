@@ -1,6 +1,6 @@
 -- Schedules are read as they are written.
 use Rattle.std.proofs.Common.{◌≡◌, ℕ, zero, suc, ◌+◌, ◌≤◌, Bool, true, false, cond, ◌&&◌, eqb, ◌↔◌, List, [], ◌∷◌, ◌++◌, length, take, drop, is_some, Ok, Err, codes, Result, sym, refl, ap, ◌∙◌, subst, append_assoc, arith, length-append}
-use Rattle.std.specs.List.{flat_map, AllByRecursion as All}
+use Rattle.std.specs.List.{flat_map, AllByRecursion}
 use Rattle.std.proofs.lemmas.Bool.Decides.{nat_tests}
 use Rattle.std.proofs.lemmas.List.{append-nil, length-drop, nil_from_length}
 use Rattle.formats.specs.declared.refusal.Refusal.{Refusal}
@@ -81,7 +81,7 @@ module _ (s : Timed) where
     next_step_written : (more : List ℕ) → next_step_in pipes i (step_columns s ++ 10 ∷ more) ≡ Ok s
     next_step_written more = and_ok _ (step_columns s) _ (sym (due_written (step_columns s) more step_feedless (codes "STEP") (9 + pipes) i step_long step_kind)) ∙ step_written
 
-steps_written : (ss qs : List Timed) (pipes i : ℕ) (more : List ℕ) → All (SoundStep pipes) ss → steps_in (length ss) pipes i (flat_map step_line ss ++ more) qs ≡ Ok (qs ++ ss, more)
+steps_written : (ss qs : List Timed) (pipes i : ℕ) (more : List ℕ) → AllByRecursion (SoundStep pipes) ss → steps_in (length ss) pipes i (flat_map step_line ss ++ more) qs ≡ Ok (qs ++ ss, more)
 steps_written [] qs pipes i more h = ap (λ (x : List Timed). Ok (x, more)) (sym (append-nil qs))
 steps_written (s ∷ ss) qs pipes i more (h, hs) =
     let rest = flat_map step_line ss ++ more in
@@ -130,7 +130,7 @@ record Stepped (pipes k : ℕ) (bs : List ℕ) (ss qs : List Timed) (rest : List
   all : qs ≡ ss ++ new
   counted : length new ≡ k
   is : bs ≡ flat_map step_line new ++ rest
-  sound : All (SoundStep pipes) new
+  sound : AllByRecursion (SoundStep pipes) new
 
 steps_read : (k pipes i : ℕ) (bs : List ℕ) (ss qs : List Timed) (rest : List ℕ) → steps_in k pipes i bs ss ≡ Ok (qs, rest) → Stepped pipes k bs ss qs rest
 steps_read zero pipes i bs ss qs rest e =

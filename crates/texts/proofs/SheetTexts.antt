@@ -1,6 +1,6 @@
 -- Sheets are read as they are written.
 use Rattle.std.proofs.Common.{◌≡◌, ℕ, zero, suc, ◌+◌, ◌-◌, ◌≤◌, Bool, true, false, cond, ◌&&◌, eqb, ◌≢◌, List, [], ◌∷◌, ◌++◌, length, get_or, take, drop, Some, None, Ok, Err, codes, Result, sym, refl, ap, ◌∙◌, subst, inl, inr, append_assoc, arith}
-use Rattle.std.specs.List.{flat_map, AllByRecursion as All}
+use Rattle.std.specs.List.{flat_map, AllByRecursion}
 use Rattle.std.proofs.lemmas.Bool.Decides.{nat_tests, eqb_tells}
 use Rattle.std.proofs.lemmas.List.{take_all, append-nil, get_or-drop, length-drop}
 use Rattle.network.specs.declared.valve.Valve.{Valve}
@@ -136,7 +136,7 @@ module _ (p : Pipe) where
     next_pipe_written : (more : List ℕ) → next_pipe_in n i (pipe_columns p ++ 10 ∷ more) ≡ Ok p
     next_pipe_written more = and_ok _ (pipe_columns p) _ (sym (due_written (pipe_columns p) more pipe_feedless (codes "PIPE") 24 i (pipe_long p) pipe_kind)) ∙ pipe_written
 
-pipes_written : (ps qs : List Pipe) (n i : ℕ) (more : List ℕ) → n ≤ 64 → All (Joins n) ps → All Limited ps → pipes_in (length ps) n i (flat_map pipe_line ps ++ more) qs ≡ Ok (qs ++ ps, more)
+pipes_written : (ps qs : List Pipe) (n i : ℕ) (more : List ℕ) → n ≤ 64 → AllByRecursion (Joins n) ps → AllByRecursion Limited ps → pipes_in (length ps) n i (flat_map pipe_line ps ++ more) qs ≡ Ok (qs ++ ps, more)
 pipes_written [] qs n i more h j l = ap (λ (x : List Pipe). Ok (x, more)) (sym (append-nil qs))
 pipes_written (p ∷ ps) qs n i more h (j, js) (l, ls) =
     let rest = flat_map pipe_line ps ++ more in
@@ -257,8 +257,8 @@ record Piped (n k : ℕ) (bs : List ℕ) (ps qs : List Pipe) (rest : List ℕ) :
   all : qs ≡ ps ++ new
   counted : length new ≡ k
   is : bs ≡ flat_map pipe_line new ++ rest
-  joins : All (Joins n) new
-  limited : All Limited new
+  joins : AllByRecursion (Joins n) new
+  limited : AllByRecursion Limited new
 
 pipes_read : (k n i : ℕ) (bs : List ℕ) (ps qs : List Pipe) (rest : List ℕ) → 1 ≤ n → pipes_in k n i bs ps ≡ Ok (qs, rest) → Piped n k bs ps qs rest
 pipes_read zero n i bs ps qs rest some e =

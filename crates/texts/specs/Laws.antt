@@ -1,6 +1,6 @@
 -- Texts are read as they are written, and in no other way.
 use Rattle.std.specs.Prelude.{◌≡◌, ℕ, ◌≤◌, ◌↔◌, List, ◌++◌, length, take, drop, Some, None, Ok, Err, ◌≢◌}
-use Rattle.std.specs.List.{AllByRecursion as All}
+use Rattle.std.specs.List.{AllByRecursion}
 use Rattle.network.specs.Network.{Network, Sound}
 use Rattle.network.specs.Residual.{size}
 use Rattle.formats.specs.declared.refusal.Refusal.{Refusal}
@@ -30,7 +30,7 @@ pub record SheetLaws (most : ℕ) : Type 0 where
 pub record SoundSchedule (pipes : ℕ) (ss : List Timed) : Type 0 where
   pub some : 1 ≤ length ss
   pub few : length ss ≤ 100
-  pub steps : All (SoundStep pipes) ss
+  pub steps : AllByRecursion (SoundStep pipes) ss
 
 pub record ScheduleLaws (pipes : ℕ) : Type 0 where
   -- a schedule that is written is read back, from any line on

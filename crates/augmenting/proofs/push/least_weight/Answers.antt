@@ -1,5 +1,5 @@
 use Rattle.std.proofs.Common.{◌≡◌, ℕ, ◌+◌, ◌-◌, ◌<◌, min, length, sym, refl, ap, ◌∙◌, subst, arith}
-use Rattle.std.specs.List.{AllByRecursion as All}
+use Rattle.std.specs.List.{AllByRecursion}
 use Rattle.network.specs.Pipes.{network_of, flow_of}
 use Rattle.network.specs.Residual.{tail, weight}
 use Rattle.paths.specs.BestPaths.{via_at}
@@ -15,7 +15,7 @@ loop-turn-init g c =
     let via = via_at c.args.labels.now in
     let z : c.args.table.now.junctions - 0 ≡ c.args.table.now.junctions = omega arith in (
       c.requires.goal,
-      subst (λ (m : ℕ). All (λ s. s.pipe < t.count) (spelled (network_of t) via m c.args.goal)) (sym z) c.requires.inside,
+      subst (λ (m : ℕ). AllByRecursion (λ s. s.pipe < t.count) (spelled (network_of t) via m c.args.goal)) (sym z) c.requires.inside,
       ap (λ (m : ℕ). least_weight_of (network_of t) (flow_of t) c.args.most (spelled (network_of t) via m c.args.goal)) z,
     )
 
@@ -63,7 +63,7 @@ loop-turn-preserved g c =
     c.min-least.ensures ∙ ap (min c.loop-turn.least) (c.weight_of.ensures ∙ weight_read t s all.0 _ refl) in
     let more = turn_more w ls n k c.loop-turn.at c.index-labels-at.result c.loop-turn-test.true inside c.index-labels-at.is s c.in-Some.is in (
       subst (λ (x : ℕ). x < t.junctions) (sym c.tail_of-at.ensures) (ends_read t s.direction s.pipe all.0).0,
-      subst (λ (x : ℕ). All (λ s. s.pipe < t.count) (spelled w (via_at ls) (n - (k + 1)) x)) (sym e) all.1,
+      subst (λ (x : ℕ). AllByRecursion (λ s. s.pipe < t.count) (spelled w (via_at ls) (n - (k + 1)) x)) (sym e) all.1,
       ap (λ (x : ℕ). least_weight_of w f c.min-least.result (spelled w (via_at ls) (n - (k + 1)) x)) e
           ∙ ap (λ (x : ℕ). least_weight_of w f x (spelled w (via_at ls) (n - (k + 1)) (tail w s))) m
           ∙ sym (ap (least_weight_of w f c.loop-turn.least) more)

@@ -1,5 +1,5 @@
 use Rattle.std.proofs.Common.{◌≡◌, ℕ, ◌+◌, ◌-◌, ◌<◌, ◌≤◌, List, length, get_or, Some, sym, refl, ap, ◌∙◌, subst, arith}
-use Rattle.std.specs.List.{AllByRecursion as All}
+use Rattle.std.specs.List.{AllByRecursion}
 use Rattle.network.specs.declared.step.Step.{Step}
 use Rattle.network.specs.declared.table.Table.{Table}
 use Rattle.network.specs.Network.{Network}
@@ -24,7 +24,7 @@ loop-turn-init g c =
       c.requires.goal,
       refl,
       refl,
-      subst (λ (m : ℕ). All (Takes w f c.args.amount) (spelled w via m c.args.goal)) (sym z) c.requires.takes,
+      subst (λ (m : ℕ). AllByRecursion (Takes w f c.args.amount) (spelled w via m c.args.goal)) (sym z) c.requires.takes,
       subst (λ (m : ℕ). Once (spelled w via m c.args.goal)) (sym z) c.requires.once,
       ap (λ (m : ℕ). pushed f c.args.amount (spelled w via m c.args.goal)) z,
     )
@@ -42,7 +42,7 @@ returns-in_default g c =
 
 -- the step of a turn is a pipe of the table, and takes the amount
 step_takes : {L : Type 0} (t now : Table) (ls : List (Label L)) (k b c : ℕ) (l : Label L) (s : Step) → k < t.junctions → b < length ls → l ≡ get_or ls b l → l.via ≡ Some s
-    → network_of now ≡ network_of t → now.count ≡ t.count → All (Takes (network_of t) (flow_of now) c) (spelled (network_of t) (via_at ls) (t.junctions - k) b)
+    → network_of now ≡ network_of t → now.count ≡ t.count → AllByRecursion (Takes (network_of t) (flow_of now) c) (spelled (network_of t) (via_at ls) (t.junctions - k) b)
     → (s.pipe < now.count) × (c ≤ weight (network_of now) (flow_of now) s)
 step_takes t now ls k b c l s more inside is step same count all =
     let h = (turn_all (network_of t) ls t.junctions k b l more inside is s step (Takes (network_of t) (flow_of now) c) all).0 in
@@ -81,7 +81,7 @@ loop-turn-preserved g c =
     let inside : c.loop-turn.at < length c.args.labels.now = omega (arith, c.loop-turn.invariant.0, c.requires.places) in
     let h = step_takes t now ls k c.loop-turn.at d c.index-labels-at.result s c.loop-turn-test.true inside c.index-labels-at.is c.in-Some.is c.loop-turn.invariant.1 c.loop-turn.invariant.2 c.loop-turn.invariant.3 in
     let more = turn_more w ls n k c.loop-turn.at c.index-labels-at.result c.loop-turn-test.true inside c.index-labels-at.is s c.in-Some.is in
-    let all = subst (λ (ss : List Step). All (Takes w f d) ss) more c.loop-turn.invariant.3 in
+    let all = subst (λ (ss : List Step). AllByRecursion (Takes w f d) ss) more c.loop-turn.invariant.3 in
     let once = subst Once more c.loop-turn.invariant.4 in
     let e : c.tail_of-at.result ≡ tail (network_of c.args.table.now) c.in-Some.step =
     c.tail_of-at.ensures ∙ tail_read now s h.0 _ refl ∙ ap (λ (v : Network). tail v s) c.loop-turn.invariant.1 in
@@ -90,8 +90,8 @@ loop-turn-preserved g c =
       omega (arith, ap (λ (v : Network). v.junctions) c.loop-turn.invariant.1),
       c.push_step.ensures.same ∙ c.loop-turn.invariant.1,
       c.push_step.ensures.count ∙ c.loop-turn.invariant.2,
-      subst (λ (x : ℕ). All (Takes w (flow_of c.push_step.new.table) d) (spelled w (via_at ls) (n - (k + 1)) x)) (sym e)
-          (subst (λ (y : List ℕ). All (Takes w y d) left) (sym c.push_step.ensures.flow) (takes_others w f d s left once.0 all.1)),
+      subst (λ (x : ℕ). AllByRecursion (Takes w (flow_of c.push_step.new.table) d) (spelled w (via_at ls) (n - (k + 1)) x)) (sym e)
+          (subst (λ (y : List ℕ). AllByRecursion (Takes w y d) left) (sym c.push_step.ensures.flow) (takes_others w f d s left once.0 all.1)),
       subst (λ (x : ℕ). Once (spelled w (via_at ls) (n - (k + 1)) x)) (sym e) once.1,
       ap (λ (x : ℕ). pushed (flow_of c.push_step.new.table) d (spelled w (via_at ls) (n - (k + 1)) x)) e
           ∙ ap (λ (y : List ℕ). pushed y d left) c.push_step.ensures.flow

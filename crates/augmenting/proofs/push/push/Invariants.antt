@@ -1,5 +1,5 @@
 use Rattle.std.proofs.Common.{◌≡◌, ◌-◌, ◌<◌}
-use Rattle.std.specs.List.{AllByRecursion as All}
+use Rattle.std.specs.List.{AllByRecursion}
 use Rattle.network.specs.Pipes.{network_of, flow_of}
 use Rattle.network.specs.Pushing.{pushed}
 use Rattle.paths.specs.BestPaths.{via_at}
@@ -13,6 +13,6 @@ invariant-loop-turn g l =
     (l.at < l.initial.table.junctions)
     × (network_of l.table ≡ w)
     × (l.table.count ≡ l.initial.table.count)
-    × All (Takes w (flow_of l.table) l.amount) left
+    × AllByRecursion (Takes w (flow_of l.table) l.amount) left
     × Once left
     × (pushed (flow_of l.table) l.amount left ≡ pushed (flow_of l.initial.table) l.amount (spelled w (via_at l.labels) l.initial.table.junctions l.goal))

@@ -1,5 +1,5 @@
 use Rattle.std.proofs.Common.{◌≡◌, ℕ, ◌-◌, map, length, take, Ok, sym, refl, ap, ◌∙◌, subst, arith}
-use Rattle.std.specs.List.{AllByRecursion as All}
+use Rattle.std.specs.List.{AllByRecursion}
 use Rattle.std.proofs.lemmas.Result.{err_from_is_err_and}
 use Rattle.network.specs.Network.{Network}
 use Rattle.network.specs.Residual.{size}
@@ -56,7 +56,7 @@ rate_steps-total-requires g c =
       joined = got.joined ∙ sym (ap (λ (u : Network). u.junctions) means);
       sized = got.sized ∙ sym (ap size means);
       long = omega (arith, x.short, c.in_ok-extent.ensures.long);
-      sound = subst (λ (n : ℕ). All (SoundStep n) (map timed (take c.in_ok-extent.extent.steps c.read_text.new.steps))) (sym got.sized) got.whole.scheduled.steps;
+      sound = subst (λ (n : ℕ). AllByRecursion (SoundStep n) (map timed (take c.in_ok-extent.extent.steps c.read_text.new.steps))) (sym got.sized) got.whole.scheduled.steps;
       fits = omega arith;
     }
 

@@ -1,5 +1,5 @@
 use Rattle.std.proofs.Common.{◌≡◌, ℕ, ◌+◌, ◌-◌, ◌<◌, List, [], map, length, take, set, Ok, sym, refl, ap, ◌∙◌, subst, arith, drop-set-lt}
-use Rattle.std.specs.List.{AllByRecursion as All}
+use Rattle.std.specs.List.{AllByRecursion}
 use Rattle.std.proofs.lemmas.Result.{err_from_is_err_and}
 use Rattle.std.proofs.ByRecursion.{All-push}
 use Rattle.formats.specs.Lines.{after_line}
@@ -40,7 +40,7 @@ loop-k-preserved c =
           ∙ ap (λ (ss : List Timed). steps_in (count - (k + 1)) n (old.lines + 1 + 1) (after_line (rest old)) ss) more
           ∙ sym (steps_more count k n (old.lines + 1) (rest old) (map timed (take k steps)) c.loop-k-test.true (timed step) got.0)
           ∙ c.loop-k.invariant.0,
-      subst (λ (ss : List Timed). All (SoundStep n) ss) (sym more) (All-push (SoundStep n) (map timed (take k steps)) (timed step) c.loop-k.invariant.1 got.1),
+      subst (λ (ss : List Timed). AllByRecursion (SoundStep n) ss) (sym more) (All-push (SoundStep n) (map timed (take k steps)) (timed step) c.loop-k.invariant.1 got.1),
       went_more k c.args.self.now old new c.loop-k.invariant.2 got.2,
       drop-set-lt count steps k step c.loop-k-test.true ∙ c.loop-k.invariant.3,
     )
@@ -52,7 +52,7 @@ returns c =
       sym c.loop-k.invariant.0
           ∙ steps_all c.args.count c.loop-k.k c.args.pipes (c.loop-k.self.lines + 1) (rest c.loop-k.self) (map timed (take c.loop-k.k steps)) (sym all)
           ∙ ap (λ (m : ℕ). Ok (map timed (take m steps), rest c.loop-k.self)) all,
-      subst (λ (m : ℕ). All (SoundStep c.args.pipes) (map timed (take m steps))) all c.loop-k.invariant.1,
+      subst (λ (m : ℕ). AllByRecursion (SoundStep c.args.pipes) (map timed (take m steps))) all c.loop-k.invariant.1,
       subst (λ (m : ℕ). Went m c.args.self.now c.loop-k.self) all c.loop-k.invariant.2,
       c.loop-k.invariant.3,
     )
