@@ -39,9 +39,9 @@ pub fn dry_out(table: &mut Table)
     ensures same { network_of table.new ≡ network_of table.old }
     ensures dry { flow_of table.new ≡ dry (network_of table.old) }
 {
-    for k in 0..table.count {
-        let row = table.rows[k];
-        change_row(table, k, row.limit, row.valve, 0);
+    for pipe in 0..table.count {
+        let row = table.rows[pipe];
+        change_row(table, pipe, row.limit, row.valve, 0);
     }
 }
 

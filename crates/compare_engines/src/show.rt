@@ -26,7 +26,7 @@ const ONE_FIELD: usize = 9;
 
 pub(crate) fn show_refusal(rt: &HostRuntime, refusal: &Refusal) -> io::Result<()> {
     let mut line = [0u8; FAIL_LENGTH];
-    put_fail(&mut line, refusal).unwrap();
+    put_fail(&mut line, refusal);
     rt.stdout().write_all(&line)
 }
 
@@ -54,7 +54,7 @@ fn show_report(rt: &HostRuntime, report: &Report, junctions: usize) -> io::Resul
     requires { junctions ≤ 64 }
 {
     let mut line = [0u8; MOST_RATE];
-    let _ = put_rate(&mut line, 0, 0, report, junctions);
+    put_rate(&mut line, 0, 0, report, junctions);
     let value = report.value;
     print!(rt; "value {value} ")?;
     rt.stdout()

@@ -17,7 +17,7 @@ use network::report::Report;
 use network::table::{MOST_JUNCTIONS, Table};
 use network::valve::Valve;
 use texts::text::read_sheet;
-use writing::sheet_lines::put_sheet;
+use writing::sheet_lines::try_put_sheet;
 
 // A call without text concerns no line.
 const NO_LINE: usize = 0;
@@ -146,7 +146,7 @@ impl Settled {
           | Err e ↦ (writing (length space.old) (network_of self.now.table) ≡ Err e) × (space.new ≡ space.old)
         ] }
     {
-        put_sheet(space, &self.table)
+        try_put_sheet(space, &self.table)
     }
 
     // The flow, a number for each pipe, at the front of the row; the answer is the number of pipes.

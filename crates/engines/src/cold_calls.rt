@@ -10,8 +10,8 @@ ghost use Rattle.engines.specs.Kept.{kept_greatest, kept_near, kept_far};
 
 use crate::admission::admit_load;
 use crate::cold::ColdEngine;
+use crate::settle::{settle, with_pattern, with_row};
 use crate::settled::Settled;
-use augmenting::rows::{change_row, dry_out, set_valves};
 use formats::refusal::Refusal;
 use interface::engine::{Engine, FlowEngine};
 use network::report::Report;
@@ -22,16 +22,19 @@ use paths::metric::PathMetric;
 use std::marker::PhantomData;
 
 impl<M: PathMetric> ColdEngine<M> {
-    // Takes a table in, from dry pipes. The answer is the change of the greatest value, and the number of augmentations.
+    // Settles a dry table and takes it in. The answer is the change of the greatest value, and the number of augmentations.
     fn restart(&mut self, table: Table, work: &mut [Label<M>]) -> (i64, u32)
         requires places { table.junctions ≤ length work.old }
+        requires dry { flow_of table ≡ dry (network_of table) }
         ensures same { network_of self.new.settled.table ≡ network_of table }
-        ensures change { result.0 ≡ change (network_of self.old.settled.table) (network_of table) }
-        ensures count { Fills (network_of table) M.PathMetric.good M.PathMetric.start M.PathMetric.extended (dry (network_of table)) result.1 (flow_of self.new.settled.table) }
+        ensures change { result.0 ≡ change (network_of self.old.settled.table) (network_of self.new.settled.table) }
+        ensures count { Fills (network_of self.new.settled.table) M.PathMetric.good M.PathMetric.start M.PathMetric.extended (dry (network_of self.new.settled.table)) result.1 (flow_of self.new.settled.table) }
     {
         let mut table = table;
-        dry_out(&mut table);
-        self.settled.refill(table, work)
+        let (report, count) = settle(&mut table, work);
+        let change = report.value as i64 - self.settled.report.value as i64;
+        self.settled = Settled { table, report };
+        (change, count)
     }
 }
 
@@ -69,15 +72,13 @@ impl<M: PathMetric> Engine for ColdEngine<M> {
 
     fn open(&mut self, pipe: usize, work: &mut [Label<M>]) -> Result<(i64, u32), Refusal> {
         let old = self.settled.admit_open(pipe, work.len())?;
-        let mut table = self.settled.table;
-        change_row(&mut table, pipe, old.limit, Valve::Open, 0);
+        let table = with_row(&self.settled.table, pipe, old.limit, Valve::Open);
         Ok(self.restart(table, work))
     }
 
     fn close(&mut self, pipe: usize, work: &mut [Label<M>]) -> Result<(i64, u32), Refusal> {
         let old = self.settled.admit_close(pipe, work.len())?;
-        let mut table = self.settled.table;
-        change_row(&mut table, pipe, old.limit, Valve::Closed, 0);
+        let table = with_row(&self.settled.table, pipe, old.limit, Valve::Closed);
         Ok(self.restart(table, work))
     }
 
@@ -88,16 +89,13 @@ impl<M: PathMetric> Engine for ColdEngine<M> {
         work: &mut [Label<M>],
     ) -> Result<(i64, u32), Refusal> {
         let old = self.settled.admit_limit(pipe, limit, work.len())?;
-        let mut table = self.settled.table;
-        change_row(&mut table, pipe, limit, old.valve, 0);
+        let table = with_row(&self.settled.table, pipe, limit, old.valve);
         Ok(self.restart(table, work))
     }
 
     fn pattern(&mut self, letters: &[u8], work: &mut [Label<M>]) -> Result<(i64, u32), Refusal> {
         self.settled.admit_pattern(letters, work.len())?;
-        let mut table = self.settled.table;
-        dry_out(&mut table);
-        set_valves(&mut table, letters);
+        let table = with_pattern(&self.settled.table, letters);
         Ok(self.restart(table, work))
     }
 

@@ -1,12 +1,17 @@
-ghost use Rattle.std.specs.Prelude.{◌≡◌, ◌≤◌, length};
-ghost use Rattle.network.specs.Flows.{Flow, Greatest, outflow, inflow};
+ghost use Rattle.std.specs.Prelude.{◌≡◌, ◌+◌, ◌<◌, ◌≤◌, length};
+ghost use Rattle.network.specs.Changes.{with_pipe, with_limit, with_valve};
+ghost use Rattle.network.specs.Flows.{Flow, Greatest, dry, outflow, inflow};
 ghost use Rattle.network.specs.Network.{bare};
 ghost use Rattle.network.specs.Pipes.{network_of, flow_of};
+ghost use Rattle.network.specs.Reports.{report_of};
+ghost use Rattle.network.specs.Residual.{pipe};
 ghost use Rattle.interface.specs.Augmentations.{Fills};
-ghost use Rattle.interface.specs.Verdicts.{change};
+ghost use Rattle.engines.specs.Balances.{Balanced};
+ghost use Rattle.interface.specs.Verdicts.{change, patterned};
 
 use crate::settled::Settled;
 use augmenting::fill::fill;
+use augmenting::rows::{change_row, dry_out, set_valves};
 use augmenting::survey;
 use network::report::Report;
 use network::row::Row;
@@ -22,6 +27,46 @@ const NO_ROW: Row = Row {
     flow: 0,
     valve: Valve::Closed,
 };
+
+// Fills dry pipes, and reports what came of it with the number of augmentations.
+pub fn settle<M: PathMetric>(table: &mut Table, labels: &mut [Label<M>]) -> (Report, u32)
+    requires places { table.old.junctions ≤ length labels.old }
+    requires dry { flow_of table.old ≡ dry (network_of table.old) }
+    ensures same { network_of table.new ≡ network_of table.old }
+    ensures balanced { Balanced (network_of table.new) (flow_of table.new) }
+    ensures valued { outflow (network_of table.new) (flow_of table.new) table.new.pump ≡ inflow (network_of table.new) (flow_of table.new) table.new.pump + result.0.value }
+    ensures report { result.0 ≡ report_of (network_of table.old) }
+    ensures count { Fills (network_of table.old) M.good M.start M.extended (dry (network_of table.old)) result.1 (flow_of table.new) }
+{
+    let count = fill(table, labels);
+    (survey::report(table), count)
+}
+
+// The table with its valves set by a letter for each pipe, and dry.
+pub fn with_pattern(table: &Table, letters: &[u8]) -> Table
+    requires { length letters.now ≡ table.now.count }
+    ensures network { network_of result ≡ patterned (network_of table.now) letters.now }
+    ensures dry { flow_of result ≡ dry (network_of result) }
+{
+    let mut set = *table;
+    dry_out(&mut set);
+    set_valves(&mut set, letters);
+    set
+}
+
+// The table with another limit and valve on pipe k, and dry.
+pub fn with_row(table: &Table, k: usize, limit: u32, valve: Valve) -> Table
+    requires inside { k < table.now.count }
+    requires some { 1 ≤ limit }
+    requires few { limit ≤ 60000 }
+    ensures network { network_of result ≡ with_pipe (network_of table.now) k (with_valve (with_limit (pipe (network_of table.now) k) limit) valve) }
+    ensures dry { flow_of result ≡ dry (network_of result) }
+{
+    let mut changed = *table;
+    change_row(&mut changed, k, limit, valve, 0);
+    dry_out(&mut changed);
+    changed
+}
 
 impl Settled {
     // Two junctions and no pipe.

@@ -54,7 +54,7 @@ fn main(rt: HostRuntime) -> anyhow::Result<()> {
         }
         Err(refusal) => {
             let mut line = [0u8; FAIL_LENGTH];
-            put_fail(&mut line, &refusal).unwrap();
+            put_fail(&mut line, &refusal);
             output.write_all(&line)?;
             Err(anyhow!("refused"))
         }

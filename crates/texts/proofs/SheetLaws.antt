@@ -1,11 +1,12 @@
 -- The laws of sheets, gathered.
 use Rattle.std.proofs.Common.{◌≡◌, ℕ, ◌≤◌, ◌↔◌, List, ◌++◌, length, take, drop, Ok, Err, Result, sym, refl, ap, ◌∙◌, arith, length-append}
 use Rattle.std.proofs.lemmas.List.{take-append-drop, take_at, length-drop}
-use Rattle.network.specs.Network.{Network}
+use Rattle.network.specs.Network.{Network, Sound}
 use Rattle.formats.specs.declared.refusal.Refusal.{Refusal}
-use Rattle.texts.specs.Laws.{Accepted, SheetLaws}
+use Rattle.texts.specs.Laws.{Accepted, SheetLaws, OneSheet}
 use Rattle.formats.specs.Sheets.{sheet_in}
 use Rattle.formats.specs.Written.{sheet_of}
+use Rattle.texts.proofs.LineTexts.{ok_both}
 use Rattle.texts.proofs.SheetTexts.{sheet_written, sheet_read}
 
 module _ (most : ℕ) (held : most ≤ 64) where
@@ -41,3 +42,7 @@ module _ (most : ℕ) (held : most ≤ 64) where
 
   pub sheet_laws : SheetLaws most
   sheet_laws = record { written_read = written_read; read_written = read_written; taken = taken; refused = refused }
+
+pub one_sheet : (w u : Network) → Sound w → Sound u → OneSheet w u
+one_sheet w u s t more others e =
+    ok_both w u more others (sym (sheet_written 64 1 w more s s.most) ∙ ap (sheet_in 64 1) e ∙ sheet_written 64 1 u others t t.most)

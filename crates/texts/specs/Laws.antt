@@ -1,5 +1,5 @@
 -- Texts are read as they are written, and in no other way.
-use Rattle.std.specs.Prelude.{◌≡◌, ℕ, ◌≤◌, ◌↔◌, List, ◌++◌, length, take, drop, Some, None, Ok, Err, ◌≢◌}
+use Rattle.std.specs.Prelude.{◌≡◌, ℕ, ◌+◌, ◌≤◌, ◌↔◌, List, ◌++◌, length, take, drop, Some, None, Ok, Err, ◌≢◌}
 use Rattle.std.specs.List.{AllByRecursion}
 use Rattle.network.specs.Network.{Network, Sound}
 use Rattle.network.specs.Residual.{size}
@@ -25,6 +25,10 @@ pub record SheetLaws (most : ℕ) : Type 0 where
   pub taken : (i : ℕ) (bs : List ℕ) (w : Network) (n : ℕ) → n ≤ length bs → (sheet_in most i bs ≡ Ok (w, drop n bs)) ↔ (Accepted most w × (take n bs ≡ sheet_of w))
   -- a text is refused exactly when it begins with no sheet
   pub refused : (i : ℕ) (bs : List ℕ) → ((e : Refusal) × (sheet_in most i bs ≡ Err e)) ↔ ((w : Network) (more : List ℕ) → Accepted most w → bs ≢ sheet_of w ++ more)
+
+-- two networks have different sheets, and neither sheet begins the other
+abbrev pub OneSheet : Network → Network → Type 0
+OneSheet w u = (more others : List ℕ) → sheet_of w ++ more ≡ sheet_of u ++ others → (w ≡ u) × (more ≡ others)
 
 -- a schedule for so many pipes: 1 to 100 steps
 pub record SoundSchedule (pipes : ℕ) (ss : List Timed) : Type 0 where
@@ -72,9 +76,13 @@ pub record TextRefused (most : ℕ) (text : List ℕ) (e : Refusal) : Type 0 whe
   pub first : first_missed (text_conditions most text) ≡ Some e
   pub none : (u : Network) (ts : List Timed) → Accepted most u → SoundSchedule (size u) ts → text ≢ text_of u ts
 
--- a text that has been read: its network, and how much there is to rate
+-- a text that has been read: its sheet, then its schedule, and how much there is to rate
 pub record Read (most : ℕ) (text : List ℕ) (steps : List Timed) (x : Extent) : Type 0 where
   pub network : Network
+  pub after : List ℕ
+  pub sheet : sheet_in most 1 text ≡ Ok (network, after)
+  pub schedule : schedule_in (size network) (2 + size network) after ≡ Ok steps
+  pub sound : AllByRecursion (SoundStep (size network)) steps
   pub verdict : text_in most text ≡ Ok (network, steps)
   pub whole : TextRead most text network steps
   pub long : x.steps ≡ length steps

@@ -1,5 +1,6 @@
 ghost use Rattle.std.specs.Prelude.{ℕ, ◌≤◌};
-ghost use Rattle.texts.specs.Laws.{SheetLaws, ScheduleLaws, RefusalLaws};
+ghost use Rattle.network.specs.Network.{Network, Sound};
+ghost use Rattle.texts.specs.Laws.{SheetLaws, OneSheet, ScheduleLaws, RefusalLaws};
 
 // These functions do nothing: each stands for the law in its contract, so that no check passes without its proof.
 // They speak of texts that begin on any line, and of schedules alone.
@@ -7,6 +8,11 @@ ghost use Rattle.texts.specs.Laws.{SheetLaws, ScheduleLaws, RefusalLaws};
 // A text is accepted as a network exactly when it begins with the sheet of that network.
 pub fn sheets_read_back()
     ensures { (most : ℕ) → most ≤ 64 → SheetLaws most }
+{}
+
+// Two networks have different sheets.
+pub fn sheets_differ()
+    ensures { (w u : Network) → Sound w → Sound u → OneSheet w u }
 {}
 
 // A text is accepted as a schedule exactly when it is the schedule of those steps; two lists of steps have different schedules.

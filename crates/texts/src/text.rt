@@ -9,7 +9,7 @@ ghost use Rattle.texts.specs.Texts.{text_in};
 use crate::extent::Extent;
 use formats::reader::Reader;
 use formats::refusal::Refusal;
-use formats::schedule::{MOST_STEPS, TimedPattern};
+use formats::schedule::TimedPattern;
 use network::table::Table;
 
 // In both calls `most` is the most junctions that the caller takes. A table holds 64, and every engine is proved to take no more.
@@ -38,10 +38,10 @@ pub fn read_sheet(text: &[u8], most: usize) -> Result<(Table, usize), Refusal>
 pub fn read_text<'a>(
     text: &'a [u8],
     most: usize,
-    steps: &mut [TimedPattern<'a>; MOST_STEPS],
+    steps: &mut [TimedPattern<'a>],
 ) -> Result<Extent, Refusal>
-    requires { most ≤ 64 }
-    ensures long { length steps.new ≡ 100 }
+    requires few { most ≤ 64 }
+    requires held { 100 ≤ length steps.old }
     ensures read { elim result [
       | Ok x ↦ Read most text.now (map timed (take x.steps steps.new)) x
       | Err e ↦ (text_in most text.now ≡ Err e) × TextRefused most text.now e

@@ -17,7 +17,7 @@ use std::io;
 use std::io::{Read, Write};
 use texts::text::read_sheet;
 use writing::page::put_fail;
-use writing::sheet_lines::put_sheet;
+use writing::sheet_lines::try_put_sheet;
 
 const MOST_PAGE: usize = 60_519;
 
@@ -99,7 +99,7 @@ fn show_page(rt: &HostRuntime, whole: bool, page: &[u8]) -> io::Result<()> {
 
 fn show_refusal(rt: &HostRuntime, refusal: &Refusal) -> io::Result<()> {
     let mut line = [0u8; FAIL_LENGTH];
-    put_fail(&mut line, refusal).unwrap();
+    put_fail(&mut line, refusal);
     rt.stdout().write_all(&line)
 }
 
@@ -114,7 +114,7 @@ fn sheet_differs(text: &[u8]) -> bool {
         return false;
     };
     let (table, taken) = sheet;
-    match put_sheet(&mut space, &table) {
+    match try_put_sheet(&mut space, &table) {
         Ok(length) => !same(&space[..length], &text[..taken]),
         Err(_) => true,
     }

@@ -5,7 +5,7 @@ ghost use Rattle.formats.specs.Spaces.{put_at};
 const BLANK: u8 = b' ';
 
 // Writes a number into the columns from `from` up to `to`, right-justified, with blanks to the left.
-pub(crate) fn put_number(space: &mut [u8], from: usize, to: usize, value: u64)
+pub fn put_number(space: &mut [u8], from: usize, to: usize, value: u64)
     requires from_lt_to { from < to }
     requires to_in_bounds { to ≤ length space.old }
     ensures { space.new ≡ put_at from (written (to - from) value) space.old }

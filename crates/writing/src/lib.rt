@@ -1,5 +1,5 @@
 #![tactic(auto)]
 
-mod fields;
+pub mod fields;
 pub mod page;
 pub mod sheet_lines;

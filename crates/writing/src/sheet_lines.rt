@@ -62,7 +62,7 @@ fn put_pipe(space: &mut [u8], at: usize, row: &Row)
 }
 
 // The sheet of a table's network, at the front of the space. The answer is its length; where it does not fit, the space stays as it was.
-pub fn put_sheet(space: &mut [u8], table: &Table) -> Result<usize, Refusal>
+pub fn try_put_sheet(space: &mut [u8], table: &Table) -> Result<usize, Refusal>
     ensures { Put 0 (sheet_of (network_of table.now)) space.old result space.new }
 {
     let length = LINE_BYTES * (1 + table.count);

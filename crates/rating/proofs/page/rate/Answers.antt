@@ -40,9 +40,6 @@ unwrap-requires g c =
     let got : Read g.E.Engine.most c.args.text.now (map timed (take c.in_ok-extent.extent.steps c.read_text.new.steps)) c.in_ok-extent.extent = most_is _ _ c.args.text.now ss x c.junction_bound-most.ensures c.in_ok-extent.ensures.read in
     accepted _ _ c.load.result c.load.ensures (λ e h. never_refused g.E.Engine.most (length c.args.work.now) c.args.text.now (length c.args.page.now) (omega arith) ss x got e h.0)
 
-pub slice_bounds-rate_steps-end : goal.slice_bounds-rate_steps-end
-slice_bounds-rate_steps-end g c = sym c.in_ok-extent.ensures.long
-
 pub rate_steps-total-requires : goal.rate_steps-total-requires
 rate_steps-total-requires g c =
     let x = c.in_ok-extent.extent in
@@ -55,14 +52,14 @@ rate_steps-total-requires g c =
       placed = omega arith;
       joined = got.joined ∙ sym (ap (λ (u : Network). u.junctions) means);
       sized = got.sized ∙ sym (ap size means);
-      long = omega (arith, x.short, c.in_ok-extent.ensures.long);
-      sound = subst (λ (n : ℕ). AllByRecursion (SoundStep n) (map timed (take c.in_ok-extent.extent.steps c.read_text.new.steps))) (sym got.sized) got.whole.scheduled.steps;
+      long = omega (arith, x.short);
+      sound = subst (λ (n : ℕ). AllByRecursion (SoundStep n) (map timed (take c.in_ok-extent.extent.steps c.read_text.new.steps))) (sym got.sized) got.sound;
       fits = omega arith;
     }
 
 pub unwrap-requires-2 : goal.unwrap-requires-2
 unwrap-requires-2 g c =
-    put_fits (c.page_length-length.result - 19) (total_line c.rate_steps-total.result) c.rate_steps-total.new.page c.put_total.result c.put_total.new.space c.put_total.ensures (omega (arith, total_length c.rate_steps-total.result, c.page_length-length.ensures))
+    put_fits (c.page_length-length.result - 19) (total_line c.rate_steps-total.result) c.rate_steps-total.new.page c.try_put_total.result c.try_put_total.new.space c.try_put_total.ensures (omega (arith, total_length c.rate_steps-total.result, c.page_length-length.ensures))
 
 pub returns : goal.returns
 returns g c =
@@ -81,7 +78,7 @@ returns g c =
       fitting g.E.Engine.most (length c.args.work.now) c.args.text.now (length c.args.page.now) (omega arith) ss x got (omega arith),
       long ∙ sym (page_of_length w ss),
       long,
-      page_done w c.args.page.now ss (g.E.Engine.meaning c.rate_steps-total.new.engine) c.rate_steps-total.new.page c.put_total.new.space c.rate_steps-total.result (c.page_length-length.result - 19) done (omega (arith, long)) (put_ok (c.page_length-length.result - 19) (total_line c.rate_steps-total.result) c.rate_steps-total.new.page c.put_total.result c.put_total.new.space c.unwrap-2.result c.put_total.ensures c.unwrap-2.ensures).1,
+      page_done w c.args.page.now ss (g.E.Engine.meaning c.rate_steps-total.new.engine) c.rate_steps-total.new.page c.try_put_total.new.space c.rate_steps-total.result (c.page_length-length.result - 19) done (omega (arith, long)) (put_ok (c.page_length-length.result - 19) (total_line c.rate_steps-total.result) c.rate_steps-total.new.page c.try_put_total.result c.try_put_total.new.space c.unwrap-2.result c.try_put_total.ensures c.unwrap-2.ensures).1,
       done.means,
       got.whole.is,
     )

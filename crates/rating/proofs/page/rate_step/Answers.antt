@@ -19,7 +19,7 @@ pub unwrap-next-requires : goal.unwrap-next-requires
 unwrap-next-requires g c =
     let line = rate_line c.args.step c.unwrap-report.result c.args.extent.now.junctions in
     let long = rate_length c.args.step c.unwrap-report.result c.args.extent.now.junctions in
-    put_fits c.args.at line c.args.page.now c.put_rate.result c.put_rate.new.space c.put_rate.ensures (omega arith)
+    put_fits c.args.at line c.args.page.now c.try_put_rate.result c.try_put_rate.new.space c.try_put_rate.ensures (omega arith)
 
 pub ask_governing-marks-requires : goal.ask_governing-marks-requires
 ask_governing-marks-requires g c =
@@ -35,9 +35,9 @@ pub unwrap-requires-2 : goal.unwrap-requires-2
 unwrap-requires-2 g c =
     let j = c.args.extent.now.junctions in
     let marks = take c.args.extent.now.pipes c.ask_governing-marks.result in
-    let next = (put_ok c.args.at (rate_line c.args.step c.unwrap-report.result j) c.args.page.now c.put_rate.result c.put_rate.new.space c.unwrap-next.result c.put_rate.ensures c.unwrap-next.ensures).0 in
+    let next = (put_ok c.args.at (rate_line c.args.step c.unwrap-report.result j) c.args.page.now c.try_put_rate.result c.try_put_rate.new.space c.unwrap-next.result c.try_put_rate.ensures c.unwrap-next.ensures).0 in
     let marked : length (take c.args.extent.now.pipes c.ask_governing-marks.result) ≡ c.args.extent.now.pipes = ap length c.ask_governing-marks.ensures.row ∙ pipes_length (g.E.Engine.meaning c.pattern.new.self) c.args.extent.now.pipes in
-    put_fits c.unwrap-next.result (governing_line c.args.step marks) c.put_rate.new.space c.put_governing.result c.put_governing.new.space c.put_governing.ensures
+    put_fits c.unwrap-next.result (governing_line c.args.step marks) c.try_put_rate.new.space c.try_put_governing.result c.try_put_governing.new.space c.try_put_governing.ensures
     (omega (arith, next, rate_length c.args.step c.unwrap-report.result c.args.extent.now.junctions, governing_length c.args.step (take c.args.extent.now.pipes c.ask_governing-marks.result)))
 
 pub returns : goal.returns
@@ -54,9 +54,9 @@ returns g c =
     let j = c.args.extent.now.junctions in
     let p = c.args.extent.now.pipes in
     let marks = take p c.ask_governing-marks.result in
-    let rate = put_ok c.args.at (rate_line c.args.step c.unwrap-report.result j) c.args.page.now c.put_rate.result c.put_rate.new.space c.unwrap-next.result c.put_rate.ensures c.unwrap-next.ensures in
-    let row = put_ok c.unwrap-next.result (governing_line c.args.step marks) c.put_rate.new.space c.put_governing.result c.put_governing.new.space c.unwrap-2.result c.put_governing.ensures c.unwrap-2.ensures in
-    let lines = lines_done c.args.page.now c.args.at (omega arith) c.put_rate.new.space c.put_governing.new.space c.args.step c.unwrap-next.result u c.unwrap-report.result j p marks report joined (c.requires.sized ∙ sym same) c.ask_governing-marks.ensures.row rate.0 rate.1 row.1 in
+    let rate = put_ok c.args.at (rate_line c.args.step c.unwrap-report.result j) c.args.page.now c.try_put_rate.result c.try_put_rate.new.space c.unwrap-next.result c.try_put_rate.ensures c.unwrap-next.ensures in
+    let row = put_ok c.unwrap-next.result (governing_line c.args.step marks) c.try_put_rate.new.space c.try_put_governing.result c.try_put_governing.new.space c.unwrap-2.result c.try_put_governing.ensures c.unwrap-2.ensures in
+    let lines = lines_done c.args.page.now c.args.at (omega arith) c.try_put_rate.new.space c.try_put_governing.new.space c.args.step c.unwrap-next.result u c.unwrap-report.result j p marks report joined (c.requires.sized ∙ sym same) c.ask_governing-marks.ensures.row rate.0 rate.1 row.1 in
     record {
       means = is;
       written = lines ∙ ap (λ (v : Network). put_at c.args.at (step_lines c.args.step v) c.args.page.now) is;

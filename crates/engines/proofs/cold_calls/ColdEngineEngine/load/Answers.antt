@@ -12,7 +12,7 @@ returns-in_err-table g c =
     rw (p.1, p.2) (c.in_err-table.ensures, refl, refl)
 
 pub restart-requires : goal.restart-requires
-restart-requires g c = let got = c.in_ok-table.ensures in let few = c.in_ok-table.table.most in record { places = omega (arith, got.1) }
+restart-requires g c = let got = c.in_ok-table.ensures in let few = c.in_ok-table.table.most in record { places = omega (arith, got.1); dry = got.2 }
 
 pub returns : goal.returns
 returns g c =
@@ -21,5 +21,5 @@ returns g c =
     let got = c.in_ok-table.ensures in
     let same = c.restart.ensures.same in (
       got.0 ∙ ap (λ (w : Network). Ok (w, c.in_ok-table.taken)) (sym same),
-      (c.restart.result.1, subst (λ (w : Network). Fills w m.good m.start m.extended (dry w) c.restart.result.1 (flow_of exit)) (sym same) c.restart.ensures.count),
+      (c.restart.result.1, c.restart.ensures.count),
     )

@@ -15,25 +15,25 @@ returns-in_err-old g c =
     let p = err_from_is_err_and c.from_residual.result c.from_residual.ensures.1 in
     rw (p.1, p.2) (c.in_err-old.ensures, refl, refl)
 
-pub change_row-requires : goal.change_row-requires
-change_row-requires g c =
+pub with_row-table-requires : goal.with_row-table-requires
+with_row-table-requires g c =
     let t = c.args.self.now.settled.table in
     let got = c.in_ok-old.ensures in
     let l = limit_fits t c.args.pipe c.in_ok-old.old got.2 in
-    record { inside = got.2.inside; some = l.0; few = l.1; within = omega arith }
+    record { inside = got.2.inside; some = l.0; few = l.1 }
 
 pub restart-requires : goal.restart-requires
-restart-requires g c = let got = c.in_ok-old.ensures in let few = c.change_row.new.table.most in record { places = omega (arith, got.1) }
+restart-requires g c = let got = c.in_ok-old.ensures in let few = c.with_row-table.result.most in record { places = omega (arith, got.1); dry = c.with_row-table.ensures.dry }
 
 pub returns : goal.returns
 returns g c =
     let m = g.M.PathMetric in
     let t = c.args.self.now.settled.table in
-    let u = c.change_row.new.table in
+    let u = c.with_row-table.result in
     let exit = c.restart.new.self.settled.table in
     let got = c.in_ok-old.ensures in
-    let becomes : network_of u ≡ changes.opening (network_of t) c.args.pipe = c.change_row.ensures.network ∙ to_valve t c.args.pipe c.in_ok-old.old got.2 Open in (
+    let becomes : network_of u ≡ changes.opening (network_of t) c.args.pipe = c.with_row-table.ensures.network ∙ to_valve t c.args.pipe c.in_ok-old.old got.2 Open in (
       got.0 ∙ ap (λ (w : Network). Ok w) (sym (c.restart.ensures.same ∙ becomes)),
-      c.restart.ensures.change ∙ ap (change (network_of t)) (sym c.restart.ensures.same),
-      subst (λ (w : Network). Fills w m.good m.start m.extended (dry w) c.restart.result.1 (flow_of exit)) becomes c.restart.ensures.count,
+      c.restart.ensures.change,
+      subst (λ (w : Network). Fills w m.good m.start m.extended (dry w) c.restart.result.1 (flow_of exit)) (c.restart.ensures.same ∙ becomes) c.restart.ensures.count,
     )

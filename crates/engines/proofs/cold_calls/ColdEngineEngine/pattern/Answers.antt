@@ -15,29 +15,19 @@ returns-in_err-admit_pattern g c =
     let p = err_from_is_err_and c.from_residual.result c.from_residual.ensures.1 in
     rw (p.1, p.2) (c.in_err-admit_pattern.ensures, refl, refl)
 
-pub set_valves-requires : goal.set_valves-requires
-set_valves-requires g c =
-    let t = c.args.self.now.settled.table in
-    let u = c.dry_out.new.table in
-    let got = c.in_ok-admit_pattern.ensures in
-    record {
-      long = got.2 ∙ sym (same_count u t c.dry_out.ensures.same);
-      dry = λ k e. ap (λ (f : List ℕ). carried f k) c.dry_out.ensures.dry ∙ dry_carries (network_of t) k;
-    }
-
 pub restart-requires : goal.restart-requires
-restart-requires g c = let got = c.in_ok-admit_pattern.ensures in let few = c.set_valves.new.table.most in record { places = omega (arith, got.1) }
+restart-requires g c = let got = c.in_ok-admit_pattern.ensures in let few = c.with_pattern-table.result.most in record { places = omega (arith, got.1); dry = c.with_pattern-table.ensures.dry }
 
 pub returns : goal.returns
 returns g c =
     let m = g.M.PathMetric in
     let t = c.args.self.now.settled.table in
-    let u = c.set_valves.new.table in
+    let u = c.with_pattern-table.result in
     let exit = c.restart.new.self.settled.table in
     let got = c.in_ok-admit_pattern.ensures in
     let bs = c.args.letters.now in
-    let becomes : network_of u ≡ patterned (network_of t) bs = c.set_valves.ensures.network ∙ ap (λ (w : Network). patterned w bs) c.dry_out.ensures.same in (
+    let becomes : network_of u ≡ patterned (network_of t) bs = c.with_pattern-table.ensures.network in (
       got.0 ∙ ap (λ (w : Network). Ok w) (sym (c.restart.ensures.same ∙ becomes)),
-      c.restart.ensures.change ∙ ap (change (network_of t)) (sym c.restart.ensures.same),
-      subst (λ (w : Network). Fills w m.good m.start m.extended (dry w) c.restart.result.1 (flow_of exit)) becomes c.restart.ensures.count,
+      c.restart.ensures.change,
+      subst (λ (w : Network). Fills w m.good m.start m.extended (dry w) c.restart.result.1 (flow_of exit)) (c.restart.ensures.same ∙ becomes) c.restart.ensures.count,
     )

@@ -7,7 +7,7 @@ use Rattle.writing.proofs.PageLines.{then}
 use Rattle.writing.proofs.Puts.{put_none}
 use Rattle.formats.proofs.Lengths.{sheet_length, table_length}
 use Rattle.writing.proofs.SheetLines.{rows_more, rows_length, sheet_done}
-use Rattle.writing.proofs.sheet_lines.put_sheet.Goals as goal
+use Rattle.writing.proofs.sheet_lines.try_put_sheet.Goals as goal
 
 pub returns-then-space-length : goal.returns-then-space-length
 returns-then-space-length c = let l = sheet_length (network_of c.args.table.now) in let n = table_length c.args.table.now in (refl, omega arith, refl)
