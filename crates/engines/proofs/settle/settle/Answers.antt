@@ -1,6 +1,6 @@
-use Rattle.std.proofs.Common.{◌≡◌, ℕ, ◌+◌, ◌≤◌, List, sym, refl, ap, ◌∙◌, subst, arith}
+use Rattle.std.proofs.Common.{ℕ, ◌≤◌, List, sym, ap, ◌∙◌, subst}
 use Rattle.network.specs.declared.step.Step.{Step}
-use Rattle.network.specs.Flows.{Flow, dry, inflow, outflow}
+use Rattle.network.specs.Flows.{Flow, inflow, outflow}
 use Rattle.network.specs.Network.{Network}
 use Rattle.network.specs.Paths.{Path}
 use Rattle.network.specs.Pipes.{network_of, flow_of}

@@ -1,4 +1,3 @@
-use Rattle.std.proofs.Common.{arith}
 use Rattle.writing.proofs.PageLines.{fail_done}
 use Rattle.writing.proofs.page.put_fail.Goals as goal
 

@@ -5,7 +5,6 @@ use Rattle.network.specs.Flows.{dry}
 use Rattle.network.specs.Network.{Network}
 use Rattle.network.specs.Pipes.{network_of, flow_of}
 use Rattle.interface.specs.Augmentations.{Fills}
-use Rattle.interface.specs.Verdicts.{change}
 use Rattle.engines.proofs.Working.{to_limit}
 use Rattle.engines.proofs.cold_calls.ColdEngineEngine.limit.Goals as goal
 

@@ -1,9 +1,6 @@
-use Rattle.std.proofs.Common.{Ok, sym, refl, ap, ◌∙◌, subst, arith}
+use Rattle.std.proofs.Common.{Ok, sym, refl, ap, ◌∙◌, arith}
 use Rattle.std.proofs.lemmas.Result.{err_from_is_err_and}
-use Rattle.network.specs.Flows.{dry}
 use Rattle.network.specs.Network.{Network}
-use Rattle.network.specs.Pipes.{flow_of}
-use Rattle.interface.specs.Augmentations.{Fills}
 use Rattle.engines.proofs.cold_calls.ColdEngineEngine.load.Goals as goal
 
 pub returns-in_err-table : goal.returns-in_err-table

@@ -6,7 +6,6 @@ use Rattle.network.specs.Flows.{dry}
 use Rattle.network.specs.Network.{Network}
 use Rattle.network.specs.Pipes.{network_of, flow_of}
 use Rattle.interface.specs.Augmentations.{Fills}
-use Rattle.interface.specs.Verdicts.{change}
 use Rattle.engines.proofs.Working.{limit_fits, to_valve}
 use Rattle.engines.proofs.cold_calls.ColdEngineEngine.open.Goals as goal
 

@@ -1,13 +1,10 @@
-use Rattle.std.proofs.Common.{◌≡◌, ℕ, List, Ok, sym, refl, ap, ◌∙◌, subst, arith}
+use Rattle.std.proofs.Common.{◌≡◌, Ok, sym, refl, ap, ◌∙◌, subst, arith}
 use Rattle.std.proofs.lemmas.Result.{err_from_is_err_and}
 use Rattle.network.specs.Flows.{dry}
 use Rattle.network.specs.Network.{Network}
 use Rattle.network.specs.Pipes.{network_of, flow_of}
-use Rattle.network.specs.Residual.{carried}
 use Rattle.interface.specs.Augmentations.{Fills}
-use Rattle.interface.specs.Verdicts.{change, patterned}
-use Rattle.augmenting.proofs.Valves.{same_count}
-use Rattle.engines.proofs.Working.{dry_carries}
+use Rattle.interface.specs.Verdicts.{patterned}
 use Rattle.engines.proofs.cold_calls.ColdEngineEngine.pattern.Goals as goal
 
 pub returns-in_err-admit_pattern : goal.returns-in_err-admit_pattern
