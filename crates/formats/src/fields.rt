@@ -1,7 +1,7 @@
 ghost use Rattle.std.specs.Prelude.{◌≡◌, ◌≤◌, length, drop, Some, None};
 ghost use Rattle.formats.specs.Fields.{digits_from, number_in};
 
-pub(crate) const BLANK: u8 = b' ';
+pub const BLANK: u8 = b' ';
 
 // One more than the greatest number that is read.
 const OVERFLOW: u64 = 4294967296;

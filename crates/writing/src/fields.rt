@@ -2,7 +2,7 @@ ghost use Rattle.std.specs.Prelude.{◌≡◌, ◌-◌, ◌<◌, ◌≤◌, leng
 ghost use Rattle.formats.specs.Fields.{written};
 ghost use Rattle.formats.specs.Spaces.{put_at};
 
-const BLANK: u8 = b' ';
+use formats::fields::BLANK;
 
 // Writes a number into the columns from `from` up to `to`, right-justified, with blanks to the left.
 pub fn put_number(space: &mut [u8], from: usize, to: usize, value: u64)
