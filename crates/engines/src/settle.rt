@@ -63,8 +63,8 @@ pub fn with_row(table: &Table, k: usize, limit: u32, valve: Valve) -> Table
     ensures dry { flow_of result ≡ dry (network_of result) }
 {
     let mut changed = *table;
-    change_row(&mut changed, k, limit, valve, 0);
     dry_out(&mut changed);
+    change_row(&mut changed, k, limit, valve, 0);
     changed
 }
 

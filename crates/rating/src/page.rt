@@ -17,10 +17,12 @@ use interface::engine::Engine;
 use network::table::MOST_PIPES;
 use texts::extent::Extent;
 use texts::text::read_text;
-use writing::page::{try_put_governing, try_put_rate, try_put_total};
+use writing::page::{put_governing, put_rate, put_total};
 
 // Beside its letters, a RATE line has 19 bytes, a GOVN line 10, and a TOTL line 19 in all.
 const STEP_BYTES: usize = 29;
+
+const RATE_BYTES: usize = 19;
 
 const TOTAL_BYTES: usize = 19;
 
@@ -76,9 +78,10 @@ fn rate_step<E: Engine>(
 {
     engine.pattern(letters, work).unwrap();
     let report = engine.report(work).unwrap();
-    let next = try_put_rate(page, at, step, &report, extent.junctions).unwrap();
+    put_rate(page, at, step, &report, extent.junctions);
     let marks = ask_governing(engine, work, extent.pipes);
-    try_put_governing(page, next, step, &marks[..extent.pipes]).unwrap();
+    let next = at + extent.junctions + RATE_BYTES;
+    put_governing(page, next, step, &marks[..extent.pipes]);
     report.value
 }
 
@@ -147,6 +150,6 @@ pub fn rate<E: Engine>(
     }
     engine.load(text, work).unwrap();
     let total = rate_steps(engine, work, page, &steps, &extent);
-    try_put_total(page, length - TOTAL_BYTES, total).unwrap();
+    put_total(page, length - TOTAL_BYTES, total);
     Ok(length)
 }

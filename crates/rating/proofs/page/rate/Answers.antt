@@ -3,10 +3,7 @@ use Rattle.std.specs.List.{AllByRecursion}
 use Rattle.std.proofs.lemmas.Result.{err_from_is_err_and}
 use Rattle.network.specs.Network.{Network}
 use Rattle.network.specs.Residual.{size}
-use Rattle.formats.specs.Pages.{total_line}
 use Rattle.formats.specs.Schedules.{SoundStep, timed}
-use Rattle.writing.proofs.PageLines.{total_length}
-use Rattle.writing.proofs.Puts.{put_fits, put_ok}
 use Rattle.interface.specs.Verdicts.{loading}
 use Rattle.texts.specs.Laws.{Read}
 use Rattle.texts.specs.Texts.{text_in}
@@ -57,9 +54,8 @@ rate_steps-total-requires g c =
       fits = omega arith;
     }
 
-pub unwrap-requires-2 : goal.unwrap-requires-2
-unwrap-requires-2 g c =
-    put_fits (c.page_length-length.result - 19) (total_line c.rate_steps-total.result) c.rate_steps-total.new.page c.try_put_total.result c.try_put_total.new.space c.try_put_total.ensures (omega (arith, total_length c.rate_steps-total.result, c.page_length-length.ensures))
+pub put_total-requires : goal.put_total-requires
+put_total-requires g c = omega (arith, c.page_length-length.ensures)
 
 pub returns : goal.returns
 returns g c =
@@ -78,7 +74,7 @@ returns g c =
       fitting g.E.Engine.most (length c.args.work.now) c.args.text.now (length c.args.page.now) (omega arith) ss x got (omega arith),
       long ∙ sym (page_of_length w ss),
       long,
-      page_done w c.args.page.now ss (g.E.Engine.meaning c.rate_steps-total.new.engine) c.rate_steps-total.new.page c.try_put_total.new.space c.rate_steps-total.result (c.page_length-length.result - 19) done (omega (arith, long)) (put_ok (c.page_length-length.result - 19) (total_line c.rate_steps-total.result) c.rate_steps-total.new.page c.try_put_total.result c.try_put_total.new.space c.unwrap-2.result c.try_put_total.ensures c.unwrap-2.ensures).1,
+      page_done w c.args.page.now ss (g.E.Engine.meaning c.rate_steps-total.new.engine) c.rate_steps-total.new.page c.put_total.new.space c.rate_steps-total.result (c.page_length-length.result - 19) done (omega (arith, long)) c.put_total.ensures,
       done.means,
       got.whole.is,
     )

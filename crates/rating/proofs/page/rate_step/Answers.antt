@@ -1,25 +1,18 @@
-use Rattle.std.proofs.Common.{◌≡◌, length, take, Ok, sym, ap, ◌∙◌, arith}
+use Rattle.std.proofs.Common.{◌≡◌, ◌+◌, length, take, Ok, sym, ap, ◌∙◌, arith}
 use Rattle.network.specs.declared.report.Report.{Report}
 use Rattle.network.specs.Network.{Network}
 use Rattle.network.specs.Reports.{report_of}
 use Rattle.network.specs.Residual.{size}
 use Rattle.network.proofs.Enumerated.{value_small}
-use Rattle.formats.specs.Pages.{rate_line, governing_line}
+use Rattle.formats.specs.Pages.{rate_line}
 use Rattle.formats.specs.Spaces.{put_at}
-use Rattle.writing.proofs.PageLines.{rate_length, governing_length}
-use Rattle.writing.proofs.Puts.{put_fits, put_ok}
+use Rattle.writing.proofs.PageLines.{rate_length}
 use Rattle.interface.specs.Verdicts.{patterning}
 use Rattle.rating.specs.Pages.{step_lines}
 use Rattle.rating.proofs.Lengths.{lettered_length, pipes_length}
 use Rattle.rating.proofs.Unrefused.{set_is, reported}
 use Rattle.rating.proofs.Writing.{lines_done}
 use Rattle.rating.proofs.page.rate_step.Goals as goal
-
-pub unwrap-next-requires : goal.unwrap-next-requires
-unwrap-next-requires g c =
-    let line = rate_line c.args.step c.unwrap-report.result c.args.extent.now.junctions in
-    let long = rate_length c.args.step c.unwrap-report.result c.args.extent.now.junctions in
-    put_fits c.args.at line c.args.page.now c.try_put_rate.result c.try_put_rate.new.space c.try_put_rate.ensures (omega arith)
 
 pub ask_governing-marks-requires : goal.ask_governing-marks-requires
 ask_governing-marks-requires g c =
@@ -31,14 +24,10 @@ ask_governing-marks-requires g c =
     let same : size (g.E.Engine.meaning c.pattern.new.self) ≡ size (g.E.Engine.meaning c.args.engine.now) = ap size is ∙ lettered_length bs w.pipes in
     record { placed = omega arith; sized = c.requires.sized ∙ sym same; held = c.args.extent.now.held }
 
-pub unwrap-requires-2 : goal.unwrap-requires-2
-unwrap-requires-2 g c =
-    let j = c.args.extent.now.junctions in
-    let marks = take c.args.extent.now.pipes c.ask_governing-marks.result in
-    let next = (put_ok c.args.at (rate_line c.args.step c.unwrap-report.result j) c.args.page.now c.try_put_rate.result c.try_put_rate.new.space c.unwrap-next.result c.try_put_rate.ensures c.unwrap-next.ensures).0 in
+pub put_governing-requires : goal.put_governing-requires
+put_governing-requires g c =
     let marked : length (take c.args.extent.now.pipes c.ask_governing-marks.result) ≡ c.args.extent.now.pipes = ap length c.ask_governing-marks.ensures.row ∙ pipes_length (g.E.Engine.meaning c.pattern.new.self) c.args.extent.now.pipes in
-    put_fits c.unwrap-next.result (governing_line c.args.step marks) c.try_put_rate.new.space c.try_put_governing.result c.try_put_governing.new.space c.try_put_governing.ensures
-    (omega (arith, next, rate_length c.args.step c.unwrap-report.result c.args.extent.now.junctions, governing_length c.args.step (take c.args.extent.now.pipes c.ask_governing-marks.result)))
+    omega arith
 
 pub returns : goal.returns
 returns g c =
@@ -54,9 +43,8 @@ returns g c =
     let j = c.args.extent.now.junctions in
     let p = c.args.extent.now.pipes in
     let marks = take p c.ask_governing-marks.result in
-    let rate = put_ok c.args.at (rate_line c.args.step c.unwrap-report.result j) c.args.page.now c.try_put_rate.result c.try_put_rate.new.space c.unwrap-next.result c.try_put_rate.ensures c.unwrap-next.ensures in
-    let row = put_ok c.unwrap-next.result (governing_line c.args.step marks) c.try_put_rate.new.space c.try_put_governing.result c.try_put_governing.new.space c.unwrap-2.result c.try_put_governing.ensures c.unwrap-2.ensures in
-    let lines = lines_done c.args.page.now c.args.at (omega arith) c.try_put_rate.new.space c.try_put_governing.new.space c.args.step c.unwrap-next.result u c.unwrap-report.result j p marks report joined (c.requires.sized ∙ sym same) c.ask_governing-marks.ensures.row rate.0 rate.1 row.1 in
+    let next : c.args.at + c.args.extent.now.junctions + 19 ≡ c.args.at + length (rate_line c.args.step c.unwrap-report.result c.args.extent.now.junctions) = omega (arith, rate_length c.args.step c.unwrap-report.result c.args.extent.now.junctions) in
+    let lines = lines_done c.args.page.now c.args.at (omega arith) c.put_rate.new.space c.put_governing.new.space c.args.step (c.args.at + j + 19) u c.unwrap-report.result j p marks report joined (c.requires.sized ∙ sym same) c.ask_governing-marks.ensures.row next c.put_rate.ensures c.put_governing.ensures in
     record {
       means = is;
       written = lines ∙ ap (λ (v : Network). put_at c.args.at (step_lines c.args.step v) c.args.page.now) is;
