@@ -10,9 +10,8 @@ use paths::fewest::Fewest;
 use paths::label::Label;
 use rating::page::rate;
 
-// The entry for firmware in C: a text to rate, and the space for its page. It answers 0, or the number of the refusal.
-#[unsafe(no_mangle)]
-pub extern "C" fn diljusk_rate(text: &[u8], page: &mut [u8]) -> u32
+// The entry for firmware: a text to rate, and the space for its page. It answers 0, or the number of the refusal.
+pub fn diljusk_rate(text: &[u8], page: &mut [u8]) -> u32
     ensures { Rated text.now page.old result page.new }
 {
     let mut engine: WarmEngine<Fewest> = WarmEngine::new();

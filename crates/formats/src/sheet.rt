@@ -114,8 +114,8 @@ impl Line<'_> {
     }
 
     fn pipe(&self, junctions: usize) -> Result<Row, Refusal>
-        requires bytes_len { length self.now.bytes.now ≡ 24 }
-        requires le_junctions { 1 ≤ junctions }
+        requires long { length self.now.bytes.now ≡ 24 }
+        requires some { 1 ≤ junctions }
         ensures { elim result [
           | Ok row ↦ (pipe_in junctions self.now.number self.now.bytes.now ≡ Ok (pipe_of row)) × (row.flow ≡ 0) × Joined junctions row × Limited row
           | Err e ↦ pipe_in junctions self.now.number self.now.bytes.now ≡ Err e

@@ -32,7 +32,7 @@ pub trait Engine {
     fn new() -> Self
         ensures { meaning result ≡ bare };
 
-    // The associated constant, which no clause can name.
+    // The associated constant, as a value that clauses speak of.
     fn junction_bound() -> usize
         ensures { result ≡ most };
 

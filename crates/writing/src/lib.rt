@@ -3,3 +3,5 @@
 pub mod fields;
 pub mod page;
 pub mod sheet_lines;
+#[cfg(test)]
+mod tests;
