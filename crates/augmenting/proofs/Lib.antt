@@ -1,6 +1,5 @@
 pub mod Chained
 pub mod ChangedRows
-pub mod Pushes
 pub mod Closures
 pub mod Passing
 pub mod Surveys
@@ -12,3 +11,4 @@ pub mod Leading
 pub mod Valves
 pub mod Lowering
 pub mod Closing
+pub mod Dried

@@ -1,19 +1,16 @@
 -- Rows of a table written one after the other: all dry, or their valves set by letters.
-use Rattle.std.proofs.Common.{◌≡◌, ℕ, zero, suc, ◌+◌, ◌<◌, ◌≤◌, List, [], ◌∷◌, length, get_or, take, set, replicate, Some, None, Option, sym, refl, ap, ◌∙◌, add-one, arith}
+use Rattle.std.proofs.Common.{◌≡◌, ℕ, zero, suc, ◌+◌, ◌<◌, List, [], ◌∷◌, length, get_or, take, set, replicate, Some, None, Option, sym, refl, ap, ◌∙◌, add-one, arith}
 use lib.ListN.{get_or-replicate, length-replicate}
 use Rattle.std.proofs.lemmas.List.{ext_get_or}
 use Rattle.network.specs.declared.table.Table.{Table}
-use Rattle.network.specs.declared.valve.Valve as valve
 use Rattle.network.specs.declared.valve.Valve.{Valve}
 use Rattle.network.specs.Changes.{with_pipe, with_limit, with_valve}
 use Rattle.network.specs.Flows.{dry}
 use Rattle.network.specs.Network.{Pipe, Network}
 use Rattle.network.specs.Pipes.{network_of, flow_of}
 use Rattle.network.specs.Residual.{nowhere, pipe, size, carried}
-use Rattle.network.specs.Valves.{room}
 use Rattle.network.proofs.TableFacts.{table_size, table_within}
 use Rattle.formats.specs.declared.setting.Setting.{Setting}
-use Rattle.formats.specs.declared.setting.Setting.TheVariants.{Open, Closed, Unchanged}
 use Rattle.formats.specs.Letters.{setting_of}
 use Rattle.interface.specs.Verdicts.{set_by, lettered, patterned}
 use Rattle.augmenting.specs.Settings.{valve_by}
@@ -32,17 +29,6 @@ all_dry t each =
 pub set_is : (o : Option Setting) (p : Pipe) → with_valve (with_limit p p.limit) (valve_by o p.valve) ≡ set_by o p
 set_is None p = refl
 set_is (Some s) p = refl
-
-open_room : (v : Valve) (l : ℕ) → room v l ≤ l
-open_room valve.TheVariants.Open l = omega arith
-open_room valve.TheVariants.Closed l = omega arith
-
--- what the pipe carries passes the valve, unless it is closed so
-pub passes : (o : Option Setting) (v : Valve) (l x : ℕ) → x ≤ room v l → (o ≡ Some Closed → x ≡ 0) → x ≤ room (valve_by o v) l
-passes None v l x h d = h
-passes (Some Open) v l x h d = omega (arith, open_room v l)
-passes (Some Closed) v l x h d = omega (arith, d refl)
-passes (Some Unchanged) v l x h d = h
 
 pub lettered_length : (bs : List ℕ) (ps : List Pipe) → length (lettered bs ps) ≡ length ps
 lettered_length [] ps = refl

@@ -3,3 +3,4 @@ pub mod Closures
 pub mod Legs
 pub mod Settings
 pub mod Surveys
+pub mod Walks

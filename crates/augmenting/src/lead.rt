@@ -1,86 +1,67 @@
-ghost use Rattle.std.specs.Prelude.{◌≡◌, ℕ, ◌+◌, ◌<◌, ◌≤◌, length};
+ghost use Rattle.std.specs.Prelude.{◌≡◌, ℕ, ◌+◌, ◌<◌, ◌≤◌};
 ghost use Rattle.network.specs.Pipes.{network_of, flow_of};
 ghost use Rattle.network.specs.Repair.{Torn};
 ghost use Rattle.interface.specs.Augmentations.{NoPath, Leads, Mends};
 ghost use Rattle.augmenting.specs.Legs.{GivesBack};
 
-use crate::fill::augment;
+use crate::augmenter::Augmenter;
 use crate::led::Led;
-use network::table::Table;
-use paths::label::Label;
 use paths::metric::PathMetric;
 
-// Leads an amount from `source` to `goal` along best paths, until all is led or there is no path.
-pub fn lead<M: PathMetric>(
-    table: &mut Table,
-    source: usize,
-    goal: usize,
-    amount: u32,
-    labels: &mut [Label<M>],
-) -> Led
-    requires source { source < table.old.junctions }
-    requires goal { goal < table.old.junctions }
-    requires places { table.old.junctions ≤ length labels.old }
-    ensures same { network_of table.new ≡ network_of table.old }
-    ensures leads { Leads (network_of table.old) M.good M.start M.extended source goal amount (flow_of table.old) result.count result.rest (flow_of table.new) }
-    ensures few { result.count + result.rest ≤ amount }
-    ensures blocked { 0 < result.rest → NoPath (network_of table.old) (flow_of table.new) source goal }
-{
-    let mut rest = amount;
-    let mut count = 0;
-    while rest > 0 {
-        let Some(led) = augment(table, source, goal, rest, labels) else {
-            return Led { rest, count };
-        };
-        rest -= led;
-        count += 1;
+impl<'a, M: PathMetric> Augmenter<'a, M> {
+    // Leads an amount from `source` to `goal` along best paths, until all is led or there is no path.
+    pub fn lead(&mut self, source: usize, goal: usize, amount: u32) -> Led
+        requires source { source < self.old.table.junctions }
+        requires goal { goal < self.old.table.junctions }
+        ensures same { network_of self.new.table ≡ network_of self.old.table }
+        ensures leads { Leads (network_of self.old.table) M.good M.start M.extended source goal amount (flow_of self.old.table) result.count result.rest (flow_of self.new.table) }
+        ensures few { result.count + result.rest ≤ amount }
+        ensures blocked { 0 < result.rest → NoPath (network_of self.old.table) (flow_of self.new.table) source goal }
+    {
+        let mut rest = amount;
+        let mut count = 0;
+        while rest > 0 {
+            let Some(led) = self.augment(source, goal, rest) else {
+                return Led { rest, count };
+            };
+            rest -= led;
+            count += 1;
+        }
+        Led { rest, count }
     }
-    Led { rest, count }
-}
 
-// Leads an amount back from `source` to `goal`, if these are two junctions, and answers the number of augmentations.
-fn give_back<M: PathMetric>(
-    table: &mut Table,
-    source: usize,
-    goal: usize,
-    amount: u32,
-    labels: &mut [Label<M>],
-) -> u32
-    requires source { source < table.old.junctions }
-    requires goal { goal < table.old.junctions }
-    requires places { table.old.junctions ≤ length labels.old }
-    ensures same { network_of table.new ≡ network_of table.old }
-    ensures few { result ≤ amount }
-    ensures gives { GivesBack (network_of table.old) M.good M.start M.extended source goal amount (flow_of table.old) result (flow_of table.new) }
-{
-    if source == goal {
-        return 0;
+    // Leads an amount back from `source` to `goal`, if these are two junctions, and answers the number of augmentations.
+    fn give_back(&mut self, source: usize, goal: usize, amount: u32) -> u32
+        requires source { source < self.old.table.junctions }
+        requires goal { goal < self.old.table.junctions }
+        ensures same { network_of self.new.table ≡ network_of self.old.table }
+        ensures few { result ≤ amount }
+        ensures gives { GivesBack (network_of self.old.table) M.good M.start M.extended source goal amount (flow_of self.old.table) result (flow_of self.new.table) }
+    {
+        if source == goal {
+            return 0;
+        }
+        self.lead(source, goal, amount).count
     }
-    lead(table, source, goal, amount, labels).count
-}
 
-// Mends a flow that lost an amount on the way between two junctions: leads it by other ways,
-// then what remains back to the pump and from the outlet. The answer is the number of augmentations.
-pub fn mend<M: PathMetric>(
-    table: &mut Table,
-    from: usize,
-    to: usize,
-    lost: u32,
-    labels: &mut [Label<M>],
-) -> u32
-    requires from { from < table.old.junctions }
-    requires to { to < table.old.junctions }
-    requires places { table.old.junctions ≤ length labels.old }
-    requires few { lost ≤ 60000 }
-    requires torn { (v : ℕ) × Torn (network_of table.old) (flow_of table.old) from to v v lost lost }
-    ensures same { network_of table.new ≡ network_of table.old }
-    ensures mends { Mends (network_of table.old) M.good M.start M.extended from to lost (flow_of table.old) result (flow_of table.new) }
-    ensures few { result ≤ 180000 }
-{
-    let pump = table.pump;
-    let outlet = table.outlet;
-    let round = lead(table, from, to, lost, labels);
-    let back = give_back(table, from, pump, round.rest, labels);
-    let forth = give_back(table, outlet, to, round.rest, labels);
-    round.count + back + forth
+    // Mends a flow that lost an amount on the way between two junctions: leads it by other ways,
+    // then what remains back to the pump and from the outlet. The answer is the number of augmentations.
+    // Its bound is a clause of each caller too, up to where such numbers are added: a type for it would only be taken
+    // off there.
+    pub fn mend(&mut self, from: usize, to: usize, lost: u32) -> u32
+        requires from { from < self.old.table.junctions }
+        requires to { to < self.old.table.junctions }
+        requires few { lost ≤ 60000 }
+        requires torn { (v : ℕ) × Torn (network_of self.old.table) (flow_of self.old.table) from to v v lost lost }
+        ensures same { network_of self.new.table ≡ network_of self.old.table }
+        ensures mends { Mends (network_of self.old.table) M.good M.start M.extended from to lost (flow_of self.old.table) result (flow_of self.new.table) }
+        ensures few { result ≤ 180000 }
+    {
+        let pump = self.table.pump;
+        let outlet = self.table.outlet;
+        let round = self.lead(from, to, lost);
+        let back = self.give_back(from, pump, round.rest);
+        let forth = self.give_back(outlet, to, round.rest);
+        round.count + back + forth
+    }
 }

@@ -10,12 +10,13 @@ ghost use Rattle.interface.specs.Augmentations.{least_weight_of};
 ghost use Rattle.augmenting.specs.Chains.{spelled, Takes, Once};
 
 use crate::rows::change_row;
+use crate::walk::Walk;
 use network::row::Row;
 use network::step::{Direction, Step};
 use network::table::Table;
 use paths::label::Label;
 use paths::metric::PathMetric;
-use paths::residual::{tail_of, weight_of};
+use paths::residual::weight_of;
 
 // The smallest weight on the path that the labels spell back from `goal`, or `most` if that is less.
 pub fn least_weight<M: PathMetric>(
@@ -29,16 +30,11 @@ pub fn least_weight<M: PathMetric>(
     requires inside { AllByRecursion (λ s. s.pipe < table.now.count) (spelled (network_of table.now) (via_at labels.now) table.now.junctions goal) }
     ensures { result ≡ least_weight_of (network_of table.now) (flow_of table.now) most (spelled (network_of table.now) (via_at labels.now) table.now.junctions goal) }
 {
-    let mut at = goal;
+    let mut walk = Walk::back_from(goal, labels, table.junctions);
     let mut least = most;
-    for _turn in 0..table.junctions {
-        let label = labels[at];
-        let Some(step) = label.via else {
-            return least;
-        };
-        let row = table.rows[step.pipe];
-        least = least.min(weight_of(&row, step.direction));
-        at = tail_of(&row, step.direction);
+    while let Some(step) = walk.step_back(table) {
+        let row = &table.rows[step.pipe];
+        least = least.min(weight_of(row, step.direction));
     }
     least
 }
@@ -80,14 +76,8 @@ pub fn push<M: PathMetric>(table: &mut Table, labels: &[Label<M>], goal: usize, 
     ensures count { table.new.count ≡ table.old.count }
     ensures flow { flow_of table.new ≡ pushed (flow_of table.old) amount (spelled (network_of table.old) (via_at labels.now) table.old.junctions goal) }
 {
-    let mut at = goal;
-    for _turn in 0..table.junctions {
-        let label = labels[at];
-        let Some(step) = label.via else {
-            return;
-        };
-        let row = table.rows[step.pipe];
-        at = tail_of(&row, step.direction);
+    let mut walk = Walk::back_from(goal, labels, table.junctions);
+    while let Some(step) = walk.step_back(table) {
         push_step(table, step, amount);
     }
 }

@@ -15,6 +15,9 @@ use network::table::Table;
 use network::valve::Valve;
 
 // Pipe k gets this limit and this valve, and carries this flow.
+// That k is a pipe of this table is a clause here too, as of an Augmenter. A limit in range is two clauses wherever one
+// is set:
+// rows and records have plain numbers, so that a type for it would be made and taken apart at each row.
 pub fn change_row(table: &mut Table, k: usize, limit: u32, valve: Valve, flow: u32)
     requires inside { k < table.old.count }
     requires some { 1 ≤ limit }
@@ -24,13 +27,11 @@ pub fn change_row(table: &mut Table, k: usize, limit: u32, valve: Valve, flow: u
     ensures flow { flow_of table.new ≡ slice_set (flow_of table.old) k flow }
     ensures count { table.new.count ≡ table.old.count }
 {
-    let row = table.rows[k];
     table.rows[k] = Row {
-        from: row.from,
-        to: row.to,
         limit,
         flow,
         valve,
+        ..table.rows[k]
     };
 }
 
@@ -39,14 +40,13 @@ pub fn dry_out(table: &mut Table)
     ensures same { network_of table.new ≡ network_of table.old }
     ensures dry { flow_of table.new ≡ dry (network_of table.old) }
 {
-    for pipe in 0..table.count {
-        let row = table.rows[pipe];
-        change_row(table, pipe, row.limit, row.valve, 0);
+    for row in &mut table.rows {
+        row.flow = 0;
     }
 }
 
 // The valve after a letter of a pattern.
-fn set_valve(valve: Valve, letter: u8) -> Valve
+fn valve_after(valve: Valve, letter: u8) -> Valve
     ensures { result ≡ valve_by (setting_of letter) valve }
 {
     match read_setting(letter) {
@@ -62,13 +62,14 @@ pub fn set_valves(table: &mut Table, letters: &[u8])
     ensures network { network_of table.new ≡ patterned (network_of table.old) letters.now }
     ensures flow { flow_of table.new ≡ flow_of table.old }
 {
-    for k in 0..table.count {
+    // By the pipe's number: of rows that are zipped with the letters, nothing is known behind the loop.
+    for (k, letter) in letters.iter().enumerate() {
         let row = table.rows[k];
         change_row(
             table,
             k,
             row.limit,
-            set_valve(row.valve, letters[k]),
+            valve_after(row.valve, *letter),
             row.flow,
         );
     }

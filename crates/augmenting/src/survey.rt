@@ -15,30 +15,30 @@ use network::table::Table;
 use paths::residual::{head_of, tail_of, weight_of};
 
 // What the pipes that begin at a junction carry (Along), or those that end there (Against).
-// 512 pipes of 60,000 at most: the sum fits.
-fn passing_at(table: &Table, junction: usize, sense: Direction) -> u32
-    ensures { result ≡ passing sense (network_of table.now) (flow_of table.now) junction }
+fn passing_at(rows: &[Row], junction: usize, sense: Direction) -> u32
+    requires { passing sense rows.now junction < 2 ^ 32 }
+    ensures { result ≡ passing sense rows.now junction }
 {
-    let mut sum = 0;
-    for k in 0..table.count {
-        let row = table.rows[k];
-        if tail_of(&row, sense) == junction {
-            sum += row.flow;
-        }
-    }
-    sum
+    rows.iter()
+        .filter(|row| tail_of(row, sense) == junction)
+        .map(|row| row.flow)
+        .sum()
 }
 
 // The value of the flow: what leaves the pump less what comes back to it.
 pub fn value(table: &Table) -> u32
     ensures { result ≡ outflow (network_of table.now) (flow_of table.now) table.now.pump - inflow (network_of table.now) (flow_of table.now) table.now.pump }
 {
-    let out = passing_at(table, table.pump, Direction::Along);
-    let back = passing_at(table, table.pump, Direction::Against);
+    let rows = table.pipe_rows();
+    let out = passing_at(rows, table.pump, Direction::Along);
+    let back = passing_at(rows, table.pump, Direction::Against);
     out.saturating_sub(back)
 }
 
 // The ends of a step over this pipe: the one from which a set spreads in this sense, and the one that it spreads to.
+// The sense is a value and no closure for the ends: `cross`, `round` and `reached` would each have to require of the
+// closure what these two clauses say. The residual graph turns two ends round by the same two arms, which say so plainer
+// than a function over pairs.
 fn ends_of(row: &Row, direction: Direction, sense: Direction) -> (usize, usize)
     ensures near { result.0 ≡ near_by sense direction (pipe_of row.now) }
     ensures far { result.1 ≡ far_by sense direction (pipe_of row.now) }
@@ -67,7 +67,8 @@ fn cross(table: &Table, step: Step, sense: Direction, seen: u64) -> u64
     }
 }
 
-// One round: every step is crossed.
+// One round: every step is crossed. A step names its pipe by number, so the loop counts pipes: over the rows
+// `cross` would have to be told that a row is the one of that number.
 fn round(table: &Table, sense: Direction, seen: u64) -> u64
     ensures spread { Spread sense (network_of table.now) (flow_of table.now) seen result }
     ensures crossed { (s : Step) → Crossed sense (network_of table.now) (flow_of table.now) seen result s }

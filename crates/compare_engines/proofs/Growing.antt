@@ -1,6 +1,5 @@
 -- Calls that are added line by line.
-use Rattle.std.proofs.Common.{◌≡◌, ℕ, ◌+◌, true, eqb, List, [], ◌∷◌, ◌++◌, length, drop, IfOk as made, Ok, Err, vec_items, Result, sym, refl, ap, ◌∙◌, subst, append_assoc, append-nil, arith}
-use Rattle.std.proofs.lemmas.Bool.Decides.{nat_tests}
+use Rattle.std.proofs.Common.{◌≡◌, ℕ, ◌+◌, true, List, [], ◌∷◌, ◌++◌, length, drop, IfOk as made, Ok, Err, vec_items, Result, sym, refl, ap, ◌∙◌, subst, append_assoc, append-nil, arith}
 use Rattle.std.specs.declared.alloc.AllocError.{AllocError}
 use Rattle.formats.specs.Lines.{ended, first_line, after_line}
 use Rattle.formats.specs.Readers.{rest, Advanced}
@@ -9,7 +8,7 @@ use Rattle.runs.specs.declared.call.Call.{Call}
 use Rattle.runs.specs.declared.call.Request.{Request}
 use Rattle.compare_engines.specs.declared.order.Order.{Order}
 use Rattle.compare_engines.specs.declared.script.Script.{Script}
-use Rattle.compare_engines.specs.Scripts.{line_in, behind, Makes, Adds, placed, places_after, Lines, none, more, Extends, Says}
+use Rattle.compare_engines.specs.Scripts.{line_in, behind, Makes, Adds, placed, places_after, Lines, none, more, Extends}
 use Rattle.compare_engines.proofs.Passing.{shorter, within}
 
 module _ {line text space row : List ℕ} (o o' : Order) (is : o ≡ o') (before after : Script) where
@@ -59,10 +58,3 @@ extends {space} {row} before after from middle to o line left q e f g v w a =
 
 pub begun : {space row : List ℕ} (text : List ℕ) (r : Reader) (cs : List Call) → r.text.now ≡ text → r.at ≡ 0 → r.lines ≡ 0 → cs ≡ [] → Lines text space row r.lines (rest r) 64 cs
 begun text r cs t a l c = moved _ _ _ _ _ _ _ _ (sym l) (λ i. drop (sym a i) (sym t i)) refl (sym c) none
-
-emptied : (bs : List ℕ) → true ≡ eqb (length bs) 0 → bs ≡ []
-emptied [] e = refl
-emptied (b ∷ bs) e = absurd (let z : ◌≡◌ {A = ℕ} 0 1 = grind (arith, nat_tests) in omega (arith, z))
-
-pub ended_with : {text space row : List ℕ} (i : ℕ) (bs : List ℕ) (p : ℕ) (cs : List Call) → true ≡ eqb (length bs) 0 → Lines text space row i bs p cs → Says text space row cs
-ended_with i bs p cs e l = (i, p, moved _ _ _ _ _ _ _ _ refl (emptied bs e) refl refl l)

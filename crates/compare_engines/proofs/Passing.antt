@@ -1,21 +1,12 @@
 -- Lines that are passed.
-use Rattle.std.proofs.Common.{◌≡◌, ℕ, zero, suc, ◌+◌, ◌-◌, ◌<◌, ◌≤◌, min, Bool, true, false, cond, ◌&&◌, List, length, drop, sym, refl, ap, ◌∙◌, inl, inr, arith, length-drop}
+use Rattle.std.proofs.Common.{◌≡◌, ℕ, zero, suc, ◌+◌, ◌-◌, ◌<◌, ◌≤◌, Bool, true, false, cond, ◌&&◌, List, length, sym, refl, ap, ◌∙◌, arith, length-drop}
 use Rattle.std.specs.List.{prefix_len}
-use Rattle.std.proofs.lemmas.List.{drop_all}
-use Rattle.std.proofs.lemmas.Bool.{cases_lt}
 use Rattle.std.proofs.lemmas.Bool.Decides.{nat_tests}
 use Rattle.formats.specs.Lines.{in_line, ended, after_line}
 use Rattle.compare_engines.specs.declared.order.Order.{Order}
 use Rattle.compare_engines.specs.declared.order.Order.TheVariants.{Sheet, Open, Close, Limit, Pattern, Report, Governing, WriteSheet, ReadFlow, Places, Schedule, Step}
 use Rattle.compare_engines.specs.Orders.{pipe_follows_in}
 use Rattle.compare_engines.specs.Scripts.{behind_pipes, behind}
-
--- behind all columns of a line, or more, nothing stands
-pub drop_min : (xs : List ℕ) (n m : ℕ) → m ≡ min n (length xs) → drop m xs ≡ drop n xs
-drop_min xs n m e = elim (cases_lt n (length xs)) [
-  | inl q ↦ ap (λ (k : ℕ). drop k xs) (let s : m ≡ n = omega (arith, q, e) in s)
-  | inr q ↦ drop_all m xs (omega (arith, q, e)) ∙ sym (drop_all n xs (omega (arith, q)))
-]
 
 pub shorter : (bs : List ℕ) → ended bs ≡ true → length (after_line bs) < length bs
 shorter bs e =

@@ -1,9 +1,10 @@
 -- What four engines answered to the same calls.
-use Rattle.std.specs.Prelude.{ℕ, List}
+use Rattle.std.specs.Prelude.{ℕ, min, List, vec_items, vec_len}
 use Rattle.runs.specs.declared.answer.Answer.{Answer}
-use Rattle.runs.specs.declared.answer.Answer.TheVariants.{Loaded, Changed, Reported, Governs, Sheet, Flow, Refused}
 use Rattle.runs.specs.Agreements.{Agree}
 use Rattle.runs.specs.Statements.{Tells}
+use Rattle.compare_engines.specs.declared.four.Four.{Four}
+use Rattle.compare_engines.specs.declared.four.Told.{Told}
 
 -- the first's answer to a call agrees with those of the others
 abbrev pub AllAgree : Answer → Answer → Answer → Answer → Type 0
@@ -17,12 +18,16 @@ AgreeAt xs bs cs ds i = (a b c d : Answer) → Tells xs i a → Tells bs i b →
 abbrev pub FourAgree : List Answer → List Answer → List Answer → List Answer → Type 0
 FourAgree xs bs cs ds = (i : ℕ) → AgreeAt xs bs cs ds i
 
--- the number of augmentations in an answer, or 0
-abbrev pub count_in : Answer → ℕ
-count_in (Loaded n) = 0
-count_in (Changed d n) = n
-count_in (Reported r) = 0
-count_in (Governs b) = 0
-count_in (Sheet n v) = 0
-count_in (Flow n v) = 0
-count_in (Refused e) = 0
+-- the four answers to call i
+abbrev pub TellsEach : Four → ℕ → Told → Type 0
+TellsEach f i t =
+    Tells (vec_items f.warm_fewest.answers) i t.warm_fewest.now × Tells (vec_items f.warm_widest.answers) i t.warm_widest.now
+    × Tells (vec_items f.cold_fewest.answers) i t.cold_fewest.now × Tells (vec_items f.cold_widest.answers) i t.cold_widest.now
+
+-- how many calls all four answered
+abbrev pub answered : Four → ℕ
+answered f = min (min (vec_len f.warm_fewest.answers) (vec_len f.warm_widest.answers)) (min (vec_len f.cold_fewest.answers) (vec_len f.cold_widest.answers))
+
+-- they agree in each of these
+abbrev pub EachAgrees : Four → Type 0
+EachAgrees f = FourAgree (vec_items f.warm_fewest.answers) (vec_items f.warm_widest.answers) (vec_items f.cold_fewest.answers) (vec_items f.cold_widest.answers)

@@ -1,4 +1,4 @@
-// What a line of a script begins with.
+// What a line of a script begins with: known before its columns are, and so no `Order` yet.
 #[derive(Clone, Copy)]
 pub enum Kind {
     Netw,

@@ -21,13 +21,11 @@ use show::{show_calls, show_refusal};
 use std::io;
 use std::io::Read;
 use stop::Stop;
-
-// A sheet of 512 pipes.
-const MOST_SHEET: usize = 12_825;
+use writing::sheet_lines::MOST_SHEET;
 
 // Carries out a script, and shows the answers and whether they agree.
 fn compare_engines(rt: &HostRuntime, script: &Script) -> io::Result<()> {
-    let (four, difference) = compare(rt.alloc(), &script.calls, &script.calls);
+    let (four, difference) = compare(rt.alloc(), script);
     show_calls(rt, script, &four)?;
     match difference {
         None => println!(rt; "all agree"),

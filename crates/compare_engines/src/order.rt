@@ -1,4 +1,6 @@
-// What a line of a script asks for. Letters are read off the line itself.
+// What a line of a script asks for. It is no `Request` of runs: it holds no bytes yet (letters are read off the line
+// itself),
+// and it knows workspace places and schedules.
 #[derive(Clone, Copy)]
 pub enum Order {
     // A sheet, with at most so many PIPE lines behind its first.

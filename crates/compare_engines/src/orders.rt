@@ -1,63 +1,39 @@
-ghost use Rattle.std.specs.Prelude.{◌≡◌, ◌≤◌, true, length, drop};
-ghost use Rattle.formats.specs.Sheets.{of_kind, number_at};
-ghost use Rattle.compare_engines.specs.Orders.{kind_of, fits, at_most, limit_in, asked, order_in, pipe_follows_in};
+ghost use Rattle.std.specs.Prelude.{◌≡◌, ◌≤◌, true, length};
+ghost use Rattle.formats.specs.Sheets.{number_at};
+ghost use Rattle.compare_engines.specs.Orders.{kind_of, fits, at_most, limit_in, asked, order_in};
 
 use crate::kind::Kind;
 use crate::order::Order;
+use formats::fields::{COUNT_COLUMNS, FIELD_COLUMNS, KIND_COLUMNS, SHEET_COLUMNS};
 use formats::reader::Line;
 use formats::refusal::Refusal;
 use network::table::MOST_PIPES;
 
-// A line begins with a kind word of four letters; a number field behind it has five columns.
-pub(crate) const KIND_COLUMNS: usize = 4;
-
-pub(crate) const ONE_FIELD: usize = 9;
-
-const TWO_FIELDS: usize = 14;
-
-const SHEET_COLUMNS: usize = 24;
+// The columns of a line with two fields behind its kind word.
+const TWO_FIELDS: usize = COUNT_COLUMNS + FIELD_COLUMNS;
 
 // The greatest number that five columns hold.
 const MOST_NUMBER: usize = 99_999;
-
-fn is_kind(bytes: &[u8], kind: &[u8; 4]) -> bool
-    requires { 4 ≤ length bytes.now }
-    ensures { result ≡ of_kind kind.now bytes.now }
-{
-    (bytes[0] == kind[0]) & (bytes[1] == kind[1]) & (bytes[2] == kind[2]) & (bytes[3] == kind[3])
-}
 
 // The kind of a line that has a kind word.
 fn read_kind(bytes: &[u8]) -> Option<Kind>
     requires { 4 ≤ length bytes.now }
     ensures { result ≡ kind_of bytes.now }
 {
-    if is_kind(bytes, b"NETW") {
-        Some(Kind::Netw)
-    } else if is_kind(bytes, b"OPEN") {
-        Some(Kind::Open)
-    } else if is_kind(bytes, b"SHUT") {
-        Some(Kind::Shut)
-    } else if is_kind(bytes, b"LIMT") {
-        Some(Kind::Limt)
-    } else if is_kind(bytes, b"VALV") {
-        Some(Kind::Valv)
-    } else if is_kind(bytes, b"REPT") {
-        Some(Kind::Rept)
-    } else if is_kind(bytes, b"GOVN") {
-        Some(Kind::Govn)
-    } else if is_kind(bytes, b"SHET") {
-        Some(Kind::Shet)
-    } else if is_kind(bytes, b"FLOW") {
-        Some(Kind::Flow)
-    } else if is_kind(bytes, b"PLAC") {
-        Some(Kind::Plac)
-    } else if is_kind(bytes, b"SCHD") {
-        Some(Kind::Schd)
-    } else if is_kind(bytes, b"STEP") {
-        Some(Kind::Step)
-    } else {
-        None
+    match &bytes[..KIND_COLUMNS] {
+        b"NETW" => Some(Kind::Netw),
+        b"OPEN" => Some(Kind::Open),
+        b"SHUT" => Some(Kind::Shut),
+        b"LIMT" => Some(Kind::Limt),
+        b"VALV" => Some(Kind::Valv),
+        b"REPT" => Some(Kind::Rept),
+        b"GOVN" => Some(Kind::Govn),
+        b"SHET" => Some(Kind::Shet),
+        b"FLOW" => Some(Kind::Flow),
+        b"PLAC" => Some(Kind::Plac),
+        b"SCHD" => Some(Kind::Schd),
+        b"STEP" => Some(Kind::Step),
+        _ => None,
     }
 }
 
@@ -69,14 +45,15 @@ impl Kind {
         match self {
             Kind::Netw => columns == SHEET_COLUMNS,
             Kind::Limt => columns == TWO_FIELDS,
-            Kind::Open | Kind::Shut | Kind::Govn | Kind::Plac | Kind::Schd => columns == ONE_FIELD,
+            Kind::Open | Kind::Shut | Kind::Govn | Kind::Plac | Kind::Schd => columns
+                == COUNT_COLUMNS,
             Kind::Rept | Kind::Shet | Kind::Flow => columns == KIND_COLUMNS,
             Kind::Valv => columns >= KIND_COLUMNS,
-            Kind::Step => columns >= ONE_FIELD,
+            Kind::Step => columns >= COUNT_COLUMNS,
         }
     }
 
-    // What a line of this kind asks for.
+    // What a line of this kind asks for: a table of the kinds, which a closure or an impl for each would only spread.
     fn order(self, line: &Line) -> Result<Order, Refusal>
         requires { fits self (length line.now.bytes.now) ≡ true }
         ensures { result ≡ asked line.now.number line.now.bytes.now self }
@@ -103,10 +80,7 @@ fn pipe_lines(line: &Line) -> usize
     requires { 14 ≤ length line.now.bytes.now }
     ensures { result ≡ at_most (number_at line.now.number 1 0 512 line.now.bytes.now) }
 {
-    match line.field(1, 0, MOST_PIPES) {
-        Ok(pipes) => pipes,
-        Err(_) => MOST_PIPES,
-    }
+    line.field(1, 0, MOST_PIPES).unwrap_or(MOST_PIPES)
 }
 
 // A pipe and its new limit.
@@ -134,18 +108,4 @@ pub(crate) fn read_order(line: &Line) -> Result<Order, Refusal>
         return Err(Refusal::BadLine(line.number));
     }
     kind.order(line)
-}
-
-fn begins_pipe(bytes: &[u8]) -> bool
-    ensures { result ≡ pipe_follows_in bytes.now }
-{
-    bytes.len() >= KIND_COLUMNS && is_kind(bytes, b"PIPE")
-}
-
-// Whether the bytes from a place on begin with the kind word of a pipe.
-pub(crate) fn pipe_follows(text: &[u8], at: usize) -> bool
-    requires { at ≤ length text.now }
-    ensures { result ≡ pipe_follows_in (drop at text.now) }
-{
-    begins_pipe(&text[at..])
 }

@@ -1,13 +1,15 @@
 ghost use Rattle.std.specs.Prelude.{◌≡◌, ◌+◌, ◌<◌, ◌≤◌, true, [], ◌∷◌, ◌++◌, length, drop, Ok, Err, OnOk};
 ghost use Rattle.formats.specs.Lines.{ended, first_line};
 ghost use Rattle.formats.specs.Readers.{rest, Advanced};
+ghost use Rattle.compare_engines.specs.Orders.{pipe_follows_in};
 ghost use Rattle.compare_engines.specs.Scripts.{line_in, behind_pipes, behind, placed, Adds, Extends, Stops, Says, Breaks};
 
 use crate::order::Order;
-use crate::orders::{KIND_COLUMNS, ONE_FIELD, pipe_follows, read_order};
+use crate::orders::read_order;
 use crate::script::Script;
 use crate::source::Source;
 use crate::stop::Stop;
+use formats::fields::{COUNT_COLUMNS, KIND_COLUMNS, is_kind};
 use formats::reader::{Line, Reader};
 use formats::refusal::Refusal;
 use network::table::MOST_JUNCTIONS;
@@ -22,13 +24,20 @@ fn behind_columns<'a>(line: &Line<'a>, columns: usize) -> &'a [u8]
     &line.bytes[start..]
 }
 
-// Passes the PIPE lines that follow, up to so many.
+// Whether the bytes that follow begin with the kind word of a pipe.
+fn pipe_follows(reader: &Reader) -> bool
+    ensures { result ≡ pipe_follows_in (rest reader.now) }
+{
+    is_kind(&reader.text[reader.at..], b"PIPE")
+}
+
+// Passes the PIPE lines that follow, up to so many. It counts lines that the reader gives, and no places of a slice.
 fn skip_pipes(reader: &mut Reader, most: usize)
     ensures moved { (reader.new.lines, rest reader.new) ≡ behind_pipes most reader.old.lines (rest reader.old) }
     ensures same_text { reader.new.text.now ≡ reader.old.text.now }
 {
     for passed in 0..most {
-        if !pipe_follows(reader.text, reader.at) {
+        if !pipe_follows(reader) {
             return;
         }
         let Some(_) = reader.next_line() else {
@@ -77,7 +86,7 @@ impl<'a> Script<'a> {
         Ok(())
     }
 
-    // The calls that an order makes.
+    // The calls that an order makes: a table of the orders, which a closure or an impl for each would only spread.
     fn obey(&mut self, order: Order, source: Source<'a>) -> Result<(), AllocError>
         ensures { OnOk result (Adds source.entry.line.bytes.now source.entry.text.now source.entry.space.now source.entry.row.now order self.old self.new) }
     {
@@ -98,7 +107,7 @@ impl<'a> Script<'a> {
             }
             Order::Schedule => Ok(()),
             Order::Step => {
-                self.add(Request::Pattern(behind_columns(&line, ONE_FIELD)), line)?;
+                self.add(Request::Pattern(behind_columns(&line, COUNT_COLUMNS)), line)?;
                 self.add(Request::Report, line)
             }
         }

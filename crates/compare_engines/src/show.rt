@@ -1,8 +1,8 @@
-ghost use Rattle.std.specs.Prelude.{◌≡◌, ◌≤◌};
-ghost use Rattle.compare_engines.specs.Agreements.{count_in};
+ghost use Rattle.std.specs.Prelude.{◌≤◌};
 
 use crate::four::{Four, Told};
 use crate::script::Script;
+use formats::fields::COUNT_COLUMNS;
 use formats::reader::Line;
 use formats::refusal::Refusal;
 use network::report::Report;
@@ -10,43 +10,43 @@ use network::table::MOST_JUNCTIONS;
 use runs::answer::Answer;
 use std::io;
 use std::io::Write;
-use writing::page::{put_fail, put_rate};
+use writing::page::{RATE_BYTES, fail_line, put_rate};
 
-const FAIL_LENGTH: usize = 15;
+// A RATE line of 64 junctions.
+const MOST_RATE: usize = RATE_BYTES + MOST_JUNCTIONS;
 
-// A RATE line of 64 junctions, and the columns before its letters.
-const MOST_RATE: usize = 83;
-
-const LETTERS_START: usize = 18;
+// Its letters follow all its other bytes but the line feed.
+const LETTERS_START: usize = RATE_BYTES - 1;
 
 // A new engine means a network of two junctions.
 const FEWEST_JUNCTIONS: usize = 2;
 
-const ONE_FIELD: usize = 9;
-
 pub(crate) fn show_refusal(rt: &HostRuntime, refusal: &Refusal) -> io::Result<()> {
-    let mut line = [0u8; FAIL_LENGTH];
-    put_fail(&mut line, refusal);
-    rt.stdout().write_all(&line)
+    rt.stdout().write_all(&fail_line(refusal))
 }
 
-// The number of augmentations in an answer that has one.
-fn count_of(answer: &Answer) -> u32
-    ensures { result ≡ count_in answer.now }
-{
-    match answer {
-        Answer::Changed(_, count) => *count,
-        _ => 0,
+impl<'a> Told<'a> {
+    // Each answer with the words for its engine, in the order in which they are shown.
+    fn each(&self) -> [(&'static str, &'a Answer); 4] {
+        [
+            ("warm fewest", self.warm_fewest),
+            ("warm widest", self.warm_widest),
+            ("cold fewest", self.cold_fewest),
+            ("cold widest", self.cold_widest),
+        ]
     }
 }
 
+// A change with its sign, and the numbers of augmentations, which may differ. `{change:+}` would write a plus before 0 too.
 fn show_change(rt: &HostRuntime, change: i64, told: &Told) -> io::Result<()> {
     let sign = if change > 0 { "+" } else { "" };
-    let a = count_of(told.warm_fewest);
-    let b = count_of(told.warm_widest);
-    let c = count_of(told.cold_fewest);
-    let d = count_of(told.cold_widest);
-    println!(rt; "changed {sign}{change}, augmentations {a} {b} {c} {d}")
+    print!(rt; "changed {sign}{change}, augmentations")?;
+    for (_, answer) in told.each() {
+        if let Answer::Changed(_, count) = answer {
+            print!(rt; " {count}")?;
+        }
+    }
+    println!(rt; "")
 }
 
 // The value, and a letter for each junction as in a page.
@@ -84,13 +84,15 @@ fn show_flow(rt: &HostRuntime, name: &str, answer: &Answer) -> io::Result<()> {
 // The kept flows, which may differ.
 fn show_flows(rt: &HostRuntime, pipes: usize, told: &Told) -> io::Result<()> {
     println!(rt; "flow of {pipes} pipes")?;
-    show_flow(rt, "warm fewest", told.warm_fewest)?;
-    show_flow(rt, "warm widest", told.warm_widest)?;
-    show_flow(rt, "cold fewest", told.cold_fewest)?;
-    show_flow(rt, "cold widest", told.cold_widest)
+    for (name, answer) in told.each() {
+        show_flow(rt, name, answer)?;
+    }
+    Ok(())
 }
 
 // An answer in words. The engines' answers agree, so that the first one's will do for all that is not shown of each.
+// No Display of an answer says this: two kinds of answers are shown with what all four engines gave, and a report with
+// as many letters as its sheet has junctions.
 fn show_answer(rt: &HostRuntime, told: &Told, junctions: usize) -> io::Result<()>
     requires { junctions ≤ 64 }
 {
@@ -114,13 +116,11 @@ fn show_answer(rt: &HostRuntime, told: &Told, junctions: usize) -> io::Result<()
 fn junctions_in(line: &Line) -> usize
     ensures { result ≤ 64 }
 {
-    if line.bytes.len() < ONE_FIELD {
+    if line.bytes.len() < COUNT_COLUMNS {
         return FEWEST_JUNCTIONS;
     }
-    match line.field(0, FEWEST_JUNCTIONS, MOST_JUNCTIONS) {
-        Ok(junctions) => junctions,
-        Err(_) => FEWEST_JUNCTIONS,
-    }
+    line.field(0, FEWEST_JUNCTIONS, MOST_JUNCTIONS)
+        .unwrap_or(FEWEST_JUNCTIONS)
 }
 
 fn show_call(rt: &HostRuntime, number: usize, line: &Line) -> io::Result<()> {
@@ -133,19 +133,15 @@ fn show_call(rt: &HostRuntime, number: usize, line: &Line) -> io::Result<()> {
 pub(crate) fn show_calls(rt: &HostRuntime, script: &Script, four: &Four) -> io::Result<()> {
     println!(rt; "augmentations: warm fewest, warm widest, cold fewest, cold widest")?;
     let mut junctions = FEWEST_JUNCTIONS;
-    let calls = script.lines.len();
-    let answered = four.answered();
-    for k in 0..answered.min(calls) {
-        let line = script.lines[k];
-        let told = four.told(k);
+    for (k, line) in script.lines.iter().enumerate() {
+        let Some(told) = four.told(k) else {
+            return println!(rt; "no memory for more answers");
+        };
         if let Answer::Loaded(_) = told.warm_fewest {
-            junctions = junctions_in(&line);
+            junctions = junctions_in(line);
         }
-        show_call(rt, k + 1, &line)?;
+        show_call(rt, k + 1, line)?;
         show_answer(rt, &told, junctions)?;
-    }
-    if answered < calls {
-        println!(rt; "no memory for more answers")?;
     }
     Ok(())
 }

@@ -1,25 +1,26 @@
 -- What a call's verdict comes to.
-use Rattle.std.proofs.Common.{◌≡◌, ℕ, ◌-◌, ◌<◌, ◌≤◌, Bool, true, false, cond, ◌&&◌, eqb, ltb, leb, ◌⊎◌, List, length, get_or, drop, Ok, Err, Result, sym, refl, ap, ◌∙◌, inl, inr, arith}
+use Rattle.std.proofs.Common.{◌≡◌, ℕ, ◌-◌, ◌<◌, ◌≤◌, ◌≢◌, Bool, true, false, cond, ◌&&◌, ltb, leb, ◌⊎◌, List, length, get_or, drop, Some, None, Option, Ok, Err, Result, MatchOption, sym, refl, ap, ◌∙◌, inl, inr, arith}
 use Rattle.std.proofs.lemmas.List.{length-drop}
 use Rattle.std.proofs.lemmas.Bool.{cases_lt}
 use Rattle.std.proofs.lemmas.Bool.Decides.{nat_tests}
-use Rattle.network.specs.declared.report.Report.{Report}
+use Rattle.std.specs.Option.{ok_or}
+use Rattle.network.specs.declared.pipe.Pipe as pipe-record
 use Rattle.network.specs.declared.table.Table.{Table}
 use Rattle.network.specs.declared.valve.Valve.{Valve}
 use Rattle.network.specs.declared.valve.Valve.TheVariants.{Open, Closed}
 use Rattle.network.specs.Changes as changes
-use Rattle.network.specs.Governing.{is_open, governing}
+use Rattle.network.specs.Governing.{is_open}
 use Rattle.network.specs.Network.{Pipe, Network}
-use Rattle.network.specs.Pipes.{network_of}
-use Rattle.network.specs.Reports.{report_of}
-use Rattle.network.specs.Residual.{pipe, size}
+use Rattle.network.specs.Pipes.{record_pipe, network_of, flow_of}
+use Rattle.network.specs.Residual.{pipe, size, carried}
 use Rattle.network.specs.Rows.{no_row}
-use Rattle.network.proofs.TableFacts.{table_pipe}
+use Rattle.network.proofs.TableFacts.{table_size, table_pipe}
 use Rattle.formats.specs.declared.refusal.Refusal.{Refusal}
-use Rattle.formats.specs.declared.refusal.Refusal.TheVariants.{BadLine, OutOfRange, WrongLetter, NoSuchPipe, FewPlaces, AlreadyOpen, AlreadyClosed}
-use Rattle.formats.specs.Letters.{is_pattern}
+use Rattle.formats.specs.declared.refusal.Refusal.TheVariants.{OutOfRange, NoSuchPipe, FewPlaces, AlreadyOpen, AlreadyClosed}
 use Rattle.formats.specs.Sheets.{and_then, sheet_in}
-use Rattle.interface.specs.Verdicts.{with_places, with_number, loading, opening, closing, limiting, patterned, patterning, asking}
+use Rattle.interface.specs.Verdicts.{with_places, with_number, loading, opening, closing, limiting}
+use Rattle.engines.specs.Admissions.{admitting, Numbered, Standing}
+use Rattle.engines.specs.Records.{StandsFor}
 
 -- with places enough
 placed : {A : Type 0} (most places : ℕ) (r : Result A Refusal) → most ≤ places → with_places most places r ≡ r
@@ -34,101 +35,75 @@ module _ (most places : ℕ) (enough : most ≤ places) where
       placed most places _ enough ∙ ap (λ r. and_then r (λ r. Ok (r.0, length text - length r.1))) m
       ∙ ap (λ (n : ℕ). Ok (w, n)) (let e : length text - length (drop at text) ≡ at = omega (arith, length-drop at text) in e)
 
-  module _ (w : Network) (bs : List ℕ) where
-    pub pattern_short : (length bs ≡ size w → ⊥) → patterning most places w bs ≡ Err (BadLine 0)
-    pattern_short n =
-        placed most places _ enough
-        ∙ ap (λ (b : Bool). cond {A = Result Network Refusal} b (cond (is_pattern bs) (Ok (patterned w bs)) (Err (WrongLetter 0))) (Err (BadLine 0))) (let e : eqb (length bs) (size w) ≡ false = grind (arith, nat_tests) in e)
+two_tests : {A : Type 0} (few inside : Bool) (r : Result A Refusal)
+    → cond few (Err FewPlaces) (cond inside r (Err NoSuchPipe)) ≡ and_then (cond {A = Result (Unit {0}) Refusal} few (Err FewPlaces) (cond inside (Ok tt) (Err NoSuchPipe))) (λ _. r)
+two_tests true inside r = refl
+two_tests false true r = refl
+two_tests false false r = refl
 
-    pattern_long : length bs ≡ size w → patterning most places w bs ≡ cond (is_pattern bs) (Ok (patterned w bs)) (Err (WrongLetter 0))
-    pattern_long n =
-        placed most places _ enough
-        ∙ ap (λ (b : Bool). cond {A = Result Network Refusal} b (cond (is_pattern bs) (Ok (patterned w bs)) (Err (WrongLetter 0))) (Err (BadLine 0))) (let e : eqb (length bs) (size w) ≡ true = grind (arith, nat_tests) in e)
+-- what a call comes to, once its places and its number are looked at
+module _ (most places : ℕ) (w : Network) (k : ℕ) where
+  by_number : {A : Type 0} (r : Result A Refusal) → with_places most places (with_number w k r) ≡ and_then (admitting most places w k) (λ _. r)
+  by_number r = two_tests (ltb places most) (ltb k (size w)) r
 
-    by_letters : (b : Bool) (e : Refusal) → Err e ≡ cond {A = Result (Unit {0}) Refusal} b (Ok tt) (Err (WrongLetter 0)) → cond {A = Result Network Refusal} b (Ok (patterned w bs)) (Err (WrongLetter 0)) ≡ Err e
-    by_letters true e q = absurd (let z : ◌≡◌ {A = ℕ} 0 1 = cc in omega arith)
-    by_letters false e q = let p : WrongLetter 0 ≡ e = cc in cc
+  pub turned_away : {A : Type 0} (r : Result A Refusal) (e : Refusal) → admitting most places w k ≡ Err e → with_places most places (with_number w k r) ≡ Err e
+  turned_away r e q = by_number r ∙ ap (λ x. and_then x (λ _. r)) q
 
-    all_letters : (b : Bool) → Ok tt ≡ cond {A = Result (Unit {0}) Refusal} b (Ok tt) (Err (WrongLetter 0)) → cond {A = Result Network Refusal} b (Ok (patterned w bs)) (Err (WrongLetter 0)) ≡ Ok (patterned w bs)
-    all_letters true q = refl
-    all_letters false q = absurd (let z : ◌≡◌ {A = ℕ} 0 1 = cc in omega arith)
+  module _ (in_place : admitting most places w k ≡ Ok tt) where
+    pub let_in : {A : Type 0} (r : Result A Refusal) → with_places most places (with_number w k r) ≡ r
+    let_in r = by_number r ∙ ap (λ x. and_then x (λ _. r)) in_place
 
-    pub pattern_missed : length bs ≡ size w → (e : Refusal) → Err e ≡ cond {A = Result (Unit {0}) Refusal} (is_pattern bs) (Ok tt) (Err (WrongLetter 0)) → patterning most places w bs ≡ Err e
-    pattern_missed n e q = pattern_long n ∙ by_letters (is_pattern bs) e q
+    to_open : (v : Valve) → (pipe w k).valve ≡ v → opening most places w k ≡ cond (is_open v) (Err AlreadyOpen) (Ok (changes.opening w k))
+    to_open v e = let_in _ ∙ ap (λ (x : Valve). cond {A = Result Network Refusal} (is_open x) (Err AlreadyOpen) (Ok (changes.opening w k))) e
 
-    pub pattern_done : length bs ≡ size w → Ok tt ≡ cond {A = Result (Unit {0}) Refusal} (is_pattern bs) (Ok tt) (Err (WrongLetter 0)) → patterning most places w bs ≡ Ok (patterned w bs)
-    pattern_done n q = pattern_long n ∙ all_letters (is_pattern bs) q
+    to_close : (v : Valve) → (pipe w k).valve ≡ v → closing most places w k ≡ cond (is_open v) (Ok (changes.closing w k)) (Err AlreadyClosed)
+    to_close v e = let_in _ ∙ ap (λ (x : Valve). cond {A = Result Network Refusal} (is_open x) (Ok (changes.closing w k)) (Err AlreadyClosed)) e
 
-  module _ (w : Network) (k : ℕ) where
-    no_number : {A : Type 0} (r : Result A Refusal) → size w ≤ k → with_places most places (with_number w k r) ≡ Err NoSuchPipe
-    no_number {A} r h =
-        placed most places _ enough ∙ ap (λ (b : Bool). cond {A = Result A Refusal} b r (Err NoSuchPipe)) (let e : ltb k (size w) ≡ false = grind (arith, nat_tests) in e)
+    pub limit_missed : (l : ℕ) → (1 ≤ l → l ≤ 60000 → ⊥) → limiting most places w k l ≡ Err (OutOfRange 0)
+    limit_missed l h = let_in _ ∙ ap (λ (x : Bool). cond {A = Result Network Refusal} x (Ok (changes.limiting w k l)) (Err (OutOfRange 0))) (out (cases_lt l 1) (cases_lt 60000 l))
+      where
+        out : (l < 1) ⊎ (1 ≤ l) → (60000 < l) ⊎ (l ≤ 60000) → (leb 1 l && leb l 60000) ≡ false
+        out (inl a) b = grind (arith, nat_tests)
+        out (inr a) (inl b) = grind (arith, nat_tests)
+        out (inr a) (inr b) = absurd (h a b)
 
-    numbered : {A : Type 0} (r : Result A Refusal) → k < size w → with_places most places (with_number w k r) ≡ r
-    numbered {A} r h =
-        placed most places _ enough ∙ ap (λ (b : Bool). cond {A = Result A Refusal} b r (Err NoSuchPipe)) (let e : ltb k (size w) ≡ true = grind (arith, nat_tests) in e)
+-- the calls that ask for a valve
+module _ (places : ℕ) (t : Table) (k : ℕ) where
+  pub opened : (r : Result pipe-record.Pipe Refusal) → Standing places t k Closed AlreadyOpen r
+      → elim r as (λ _. Type 0) [
+        | Ok p ↦ (opening 64 places (network_of t) k ≡ Ok (changes.opening (network_of t) k)) × (64 ≤ places) × StandsFor t k p × (p.valve ≡ Closed)
+        | Err e ↦ opening 64 places (network_of t) k ≡ Err e
+      ]
+  opened (Ok p) h = (to_open 64 places (network_of t) k h.0 Closed (sym (ap (λ (q : Pipe). q.valve) h.2.pipe_is) ∙ h.3), h.1, h.2, h.3)
+  opened (Err e) (inl a) = turned_away 64 places (network_of t) k _ e a
+  opened (Err e) (inr a) = opened_not (pipe (network_of t) k).valve refl a.1
+    where
+      opened_not : (v : Valve) → (pipe (network_of t) k).valve ≡ v → v ≢ Closed → opening 64 places (network_of t) k ≡ Err e
+      opened_not Open q n = to_open 64 places (network_of t) k a.0 Open q ∙ ap (λ (x : Refusal). Err x) (sym a.2)
+      opened_not Closed q n = absurd (n refl)
 
-    pub no_pipe_lem : size w ≤ k → Err NoSuchPipe ≡ asking most places w k
-    no_pipe_lem h = sym (no_number (Ok (governing w (report_of w) k)) h)
+  pub closed : (r : Result pipe-record.Pipe Refusal) → Standing places t k Open AlreadyClosed r
+      → elim r as (λ _. Type 0) [
+        | Ok p ↦ (closing 64 places (network_of t) k ≡ Ok (changes.closing (network_of t) k)) × (64 ≤ places) × StandsFor t k p × (p.valve ≡ Open)
+        | Err e ↦ closing 64 places (network_of t) k ≡ Err e
+      ]
+  closed (Ok p) h = (to_close 64 places (network_of t) k h.0 Open (sym (ap (λ (q : Pipe). q.valve) h.2.pipe_is) ∙ h.3), h.1, h.2, h.3)
+  closed (Err e) (inl a) = turned_away 64 places (network_of t) k _ e a
+  closed (Err e) (inr a) = closed_not (pipe (network_of t) k).valve refl a.1
+    where
+      closed_not : (v : Valve) → (pipe (network_of t) k).valve ≡ v → v ≢ Open → closing 64 places (network_of t) k ≡ Err e
+      closed_not Closed q n = to_close 64 places (network_of t) k a.0 Closed q ∙ ap (λ (x : Refusal). Err x) (sym a.2)
+      closed_not Open q n = absurd (n refl)
 
-    pub pipe_asked : (r : Report) (b : Bool) → k < size w → r ≡ report_of w → b ≡ governing w r k → Ok b ≡ asking most places w k
-    pipe_asked r b h e q = ap (λ (x : Bool). Ok x) (q ∙ ap (λ (x : Report). governing w x k) e) ∙ sym (numbered (Ok (governing w (report_of w) k)) h)
+-- the record that a table hands out of pipe k
+pub stands : (t : Table) (k : ℕ) (p : pipe-record.Pipe) → (k < t.count) × (record_pipe p ≡ pipe (network_of t) k) × (p.flow ≡ carried (flow_of t) k) → StandsFor t k p
+stands t k p h =
+    let here = t.limited k h.0 in
+    let same : p.limit ≡ (get_or t.rows k no_row).limit = ap (λ (q : Pipe). q.limit) (h.1 ∙ table_pipe t k h.0) in
+    record { inside = h.0; some = omega (arith, here.0); few = omega (arith, here.1); pipe_is = h.1; flow_is = h.2 }
 
-    pub open_none : size w ≤ k → opening most places w k ≡ Err NoSuchPipe
-    open_none h = no_number (cond (is_open (pipe w k).valve) (Err AlreadyOpen) (Ok (changes.opening w k))) h
-
-    pub close_none : size w ≤ k → closing most places w k ≡ Err NoSuchPipe
-    close_none h = no_number (cond (is_open (pipe w k).valve) (Ok (changes.closing w k)) (Err AlreadyClosed)) h
-
-    pub limit_none : (l : ℕ) → size w ≤ k → limiting most places w k l ≡ Err NoSuchPipe
-    limit_none l h = no_number (cond (leb 1 l && leb l 60000) (Ok (changes.limiting w k l)) (Err (OutOfRange 0))) h
-
-    module _ (inside : k < size w) where
-      to_open : (v : Valve) → (pipe w k).valve ≡ v → opening most places w k ≡ cond (is_open v) (Err AlreadyOpen) (Ok (changes.opening w k))
-      to_open v e =
-          numbered (cond (is_open (pipe w k).valve) (Err AlreadyOpen) (Ok (changes.opening w k))) inside
-          ∙ ap (λ (x : Valve). cond {A = Result Network Refusal} (is_open x) (Err AlreadyOpen) (Ok (changes.opening w k))) e
-
-      to_close : (v : Valve) → (pipe w k).valve ≡ v → closing most places w k ≡ cond (is_open v) (Ok (changes.closing w k)) (Err AlreadyClosed)
-      to_close v e =
-          numbered (cond (is_open (pipe w k).valve) (Ok (changes.closing w k)) (Err AlreadyClosed)) inside
-          ∙ ap (λ (x : Valve). cond {A = Result Network Refusal} (is_open x) (Ok (changes.closing w k)) (Err AlreadyClosed)) e
-
-      to_limit : (l : ℕ) (b : Bool) → (leb 1 l && leb l 60000) ≡ b → limiting most places w k l ≡ cond b (Ok (changes.limiting w k l)) (Err (OutOfRange 0))
-      to_limit l b e =
-          numbered (cond (leb 1 l && leb l 60000) (Ok (changes.limiting w k l)) (Err (OutOfRange 0))) inside
-          ∙ ap (λ (x : Bool). cond {A = Result Network Refusal} x (Ok (changes.limiting w k l)) (Err (OutOfRange 0))) e
-
-      pub open_missed : (pipe w k).valve ≡ Open → opening most places w k ≡ Err AlreadyOpen
-      open_missed e = to_open Open e
-
-      pub open_done : (pipe w k).valve ≡ Closed → opening most places w k ≡ Ok (changes.opening w k)
-      open_done e = to_open Closed e
-
-      pub close_missed : (pipe w k).valve ≡ Closed → closing most places w k ≡ Err AlreadyClosed
-      close_missed e = to_close Closed e
-
-      pub close_done : (pipe w k).valve ≡ Open → closing most places w k ≡ Ok (changes.closing w k)
-      close_done e = to_close Open e
-
-      pub limit_missed : (l : ℕ) → (1 ≤ l → l ≤ 60000 → ⊥) → limiting most places w k l ≡ Err (OutOfRange 0)
-      limit_missed l h = to_limit l false (out (cases_lt l 1) (cases_lt 60000 l))
-        where
-          out : (l < 1) ⊎ (1 ≤ l) → (60000 < l) ⊎ (l ≤ 60000) → (leb 1 l && leb l 60000) ≡ false
-          out (inl a) b = grind (arith, nat_tests)
-          out (inr a) (inl b) = grind (arith, nat_tests)
-          out (inr a) (inr b) = absurd (h a b)
-
-      pub limit_done : (l : ℕ) → 1 ≤ l → l ≤ 60000 → limiting most places w k l ≡ Ok (changes.limiting w k l)
-      limit_done l some few = to_limit l true (let e : (leb 1 l && leb l 60000) ≡ true = grind (arith, nat_tests) in e)
-
--- a report by its three parts
-pub same_report_lem : (r q : Report) → r.value ≡ q.value → r.near ≡ q.near → r.far ≡ q.far → r ≡ q
-same_report_lem r q a b c = λ i. record { value = a i; near = b i; far = c i }
-
--- the limit of a pipe of a table
-pub limit_range : (t : Table) (k l : ℕ) → k < t.count → l ≡ (pipe (network_of t) k).limit → (1 ≤ l) × (l ≤ 60000)
-limit_range t k l h e =
-    let here = t.limited k h in
-    let same : (pipe (network_of t) k).limit ≡ (get_or t.rows k no_row).limit = ap (λ (p : Pipe). p.limit) (table_pipe t k h) in
-    (omega (arith, here.0), omega (arith, here.1))
+-- a pipe that is looked up
+pub numbered : (places : ℕ) (t : Table) (k : ℕ) → 64 ≤ places → (o : Option pipe-record.Pipe)
+    → MatchOption o (t.count ≤ k) (λ p. (k < t.count) × (record_pipe p ≡ pipe (network_of t) k) × (p.flow ≡ carried (flow_of t) k)) → Numbered places t k (ok_or o NoSuchPipe)
+numbered places t k enough None past = grind (arith, nat_tests, table_size)
+numbered places t k enough (Some p) h = (grind (arith, nat_tests, table_size), enough, stands t k p h)

@@ -2,14 +2,17 @@
 use Rattle.std.proofs.Common.{◌≡◌, ℕ, zero, suc, ◌<◌, eqb, List, [], ◌∷◌, length, get_or, set, Some, None, Option, sym, refl, ap, ◌∙◌, subst, inl, inr, arith, length-set, get_or-set_other, get_or-set_same}
 use Rattle.std.proofs.lemmas.List.{get_or_past}
 use Rattle.std.proofs.lemmas.Bool.{cases_eq, cases_lt}
+use Rattle.network.specs.declared.table.Table.{Table}
 use Rattle.network.specs.declared.valve.Valve as valve
 use Rattle.network.specs.declared.valve.Valve.{Valve}
 use Rattle.network.specs.Changes.{with_valve}
 use Rattle.network.specs.Flows.{outflow, inflow, Within, Flow}
 use Rattle.network.specs.Network.{Pipe, Network}
+use Rattle.network.specs.Pipes.{network_of, flow_of}
 use Rattle.network.specs.Residual.{nowhere, pipe, size, carried}
 use Rattle.network.specs.Sums.{total, only}
 use Rattle.network.specs.Valves.{room}
+use Rattle.network.proofs.TableFacts.{table_size, table_within}
 use Rattle.network.proofs.Totals.{total_eq}
 use Rattle.formats.specs.declared.setting.Setting.{Setting}
 use Rattle.formats.specs.declared.setting.Setting.TheVariants.{Closed}
@@ -91,3 +94,18 @@ module _ {Λ : Type 0} {good : Λ → Λ → Type 0} {start : Λ} {extended : Λ
         omega (arith, few, none)
     | inr m ↦ no_letter (sym (ap setting_of (get_or_past bs j 0 (omega arith))) ∙ q)
   ]
+
+-- a table after the closings that letters ask of another
+module _ {Λ : Type 0} {good : Λ → Λ → Type 0} {start : Λ} {extended : Λ → ℕ → Λ} (t u : Table) (bs : List ℕ) (n : ℕ)
+    (c : Closings good start extended (network_of t) (flow_of t) bs t.count (network_of u) n (flow_of u)) where
+  pub all_closings : Closings good start extended (network_of t) (flow_of t) bs (size (network_of t)) (network_of u) n (flow_of u)
+  all_closings = subst (λ (k : ℕ). Closings good start extended (network_of t) (flow_of t) bs k (network_of u) n (flow_of u)) (sym (table_size t)) c
+
+  pub closed_count : t.count ≡ u.count
+  closed_count = sym (table_size t) ∙ sym (shut_size (network_of t) (flow_of t) bs _ (network_of u) n (flow_of u) all_closings) ∙ table_size u
+
+  pub closed_dry : length bs ≡ t.count → (j : ℕ) → setting_of (get_or bs j 0) ≡ Some Closed → carried (flow_of u) j ≡ 0
+  closed_dry long = shut_dry (network_of t) (flow_of t) bs (network_of u) n (flow_of u) all_closings (table_within u) (long ∙ sym (table_size t))
+
+  pub closed_set : patterned (network_of u) bs ≡ patterned (network_of t) bs
+  closed_set = shut_set (network_of t) (flow_of t) bs _ (network_of u) n (flow_of u) all_closings

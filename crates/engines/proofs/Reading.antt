@@ -1,12 +1,13 @@
 -- Sheets read and written, flows read, as the verdicts say.
-use Rattle.std.proofs.Common.{◌≡◌, ℕ, ◌+◌, ◌<◌, ◌≤◌, Bool, true, false, cond, ltb, List, [], length, get_or, take, drop, set, Ok, Err, Result, sym, ap, ◌∙◌, arith}
-use Rattle.std.proofs.lemmas.List.{take_more, take_all, length-take-le}
+use Rattle.std.proofs.Common.{◌≡◌, ℕ, ◌+◌, ◌<◌, ◌≤◌, Bool, true, false, cond, ltb, List, map, length, get_or, take, drop, set, Ok, Err, Result, sym, ap, ◌∙◌, arith}
+use Rattle.std.proofs.lemmas.List.{length-map, get_or-map, take_more, take_all, length-take-le}
 use Rattle.std.proofs.lemmas.Bool.Decides.{nat_tests}
+use Rattle.network.specs.declared.row.Row.{Row}
 use Rattle.network.specs.declared.table.Table.{Table}
 use Rattle.network.specs.Flows.{dry}
 use Rattle.network.specs.Network.{Network}
 use Rattle.network.specs.Pipes.{network_of, flow_of}
-use Rattle.network.specs.Residual.{size, carried}
+use Rattle.network.specs.Residual.{size}
 use Rattle.network.specs.Rows.{Each, Dry}
 use Rattle.network.proofs.TableFacts.{table_size, table_carried, table_within}
 use Rattle.formats.specs.declared.refusal.Refusal.{Refusal}
@@ -14,8 +15,8 @@ use Rattle.formats.specs.declared.refusal.Refusal.TheVariants.{LittleSpace}
 use Rattle.formats.specs.Sheets.{sheet_in}
 use Rattle.formats.specs.Spaces.{put_at, Put}
 use Rattle.formats.specs.Written.{sheet_of}
-use Rattle.writing.proofs.Puts.{put_none, put_more}
-use Rattle.paths.proofs.Tables.{read_row, carried_is}
+use Rattle.writing.proofs.Puts.{put_more}
+use Rattle.paths.proofs.Tables.{read_row}
 use Rattle.interface.specs.Verdicts.{loading, writing, reading}
 use Rattle.augmenting.proofs.Valves.{all_dry}
 use Rattle.engines.proofs.Calling.{load_missed, load_done}
@@ -55,27 +56,31 @@ wrote w before after (Ok n) p = (
 )
 wrote w before after (Err e) p = (short (length before) (length (sheet_of w)) (omega (arith, p.1)) ∙ ap (λ (x : Refusal). Err x) (sym p.0), p.2)
 
--- a flow that was read
-module _ (t : Table) (row : List ℕ) where
-  pub read_fits : t.count ≤ length row → reading (length row) (network_of t) ≡ Ok t.count
-  read_fits h = fits (length row) (size (network_of t)) (omega (arith, table_size t)) ∙ ap (λ (n : ℕ). Ok n) (table_size t)
+-- a flow that was read off the rows ps
+module _ (ps : List Row) (row : List ℕ) where
+  flows_long : length (map (λ (r : Row). r.flow) ps) ≡ length ps
+  flows_long = length-map ps (λ (r : Row). r.flow)
 
-  pub read_short : length row < t.count → reading (length row) (network_of t) ≡ Err LittleSpace
-  read_short h = short (length row) (size (network_of t)) (omega (arith, table_size t))
-
-  pub read_none : row ≡ put_at 0 [] row
-  read_none = sym (put_none row 0 (omega arith))
-
-  flow_long : length (flow_of t) ≡ t.count
-  flow_long = (table_within t).each ∙ table_size t
-
-  pub read_more : (k : ℕ) (now : List ℕ) → k < t.count → t.count ≤ length row → now ≡ put_at 0 (take k (flow_of t)) row
-      → set now k (get_or t.rows k read_row).flow ≡ put_at 0 (take (k + 1) (flow_of t)) row
+  pub read_more : (k : ℕ) (now : List ℕ) → k < length ps → length ps ≤ length row → now ≡ put_at 0 (take k (map (λ (r : Row). r.flow) ps)) row
+      → set now k (get_or ps k read_row).flow ≡ put_at 0 (take (k + 1) (map (λ (r : Row). r.flow) ps)) row
   read_more k now inside few e =
-      let long : length (take k (flow_of t)) ≡ k = length-take-le k (flow_of t) (omega (arith, flow_long)) in
-      (λ i. set (e i) k (sym (carried_is t k inside) i))
-      ∙ put_more row 0 (omega arith) (take k (flow_of t)) (carried (flow_of t) k) k (omega arith) (omega arith)
-      ∙ ap (λ (f : List ℕ). put_at 0 f row) (sym (take_more (flow_of t) k 0 (omega (arith, flow_long))))
+      let fs = map (λ (r : Row). r.flow) ps in
+      let long : length (take k fs) ≡ k = length-take-le k fs (omega (arith, flows_long)) in
+      (λ i. set (e i) k (sym (get_or-map (λ (r : Row). r.flow) ps k read_row 0 inside) i))
+      ∙ put_more row 0 (omega arith) (take k fs) (get_or fs k 0) k (omega arith) (omega arith)
+      ∙ ap (λ (f : List ℕ). put_at 0 f row) (sym (take_more fs k 0 (omega (arith, flows_long))))
 
-  pub read_all : (k : ℕ) (now : List ℕ) → t.count ≤ k → now ≡ put_at 0 (take k (flow_of t)) row → now ≡ put_at 0 (flow_of t) row
-  read_all k now h e = e ∙ ap (λ (f : List ℕ). put_at 0 f row) (take_all k (flow_of t) (omega (arith, flow_long)))
+  module _ (t : Table) (e : ps ≡ take t.count t.rows) where
+    pub rows_long : length ps ≡ t.count
+    rows_long = sym flows_long ∙ ap (λ (rs : List Row). length (map (λ (r : Row). r.flow) rs)) e ∙ (table_within t).each ∙ table_size t
+
+    pub read_fits : length ps ≤ length row → reading (length row) (network_of t) ≡ Ok (length ps)
+    read_fits h = fits (length row) (size (network_of t)) (omega (arith, table_size t, rows_long)) ∙ ap (λ (n : ℕ). Ok n) (table_size t ∙ sym rows_long)
+
+    pub read_short : length row < length ps → reading (length row) (network_of t) ≡ Err LittleSpace
+    read_short h = short (length row) (size (network_of t)) (omega (arith, table_size t, rows_long))
+
+    pub read_all : (k : ℕ) (now : List ℕ) → length ps ≤ k → now ≡ put_at 0 (take k (map (λ (r : Row). r.flow) ps)) row → now ≡ put_at 0 (flow_of t) row
+    read_all k now h q =
+        q ∙ ap (λ (f : List ℕ). put_at 0 f row) (take_all k (map (λ (r : Row). r.flow) ps) (omega (arith, flows_long)))
+        ∙ ap (λ (rs : List Row). put_at 0 (map (λ (r : Row). r.flow) rs) row) e

@@ -1,4 +1,4 @@
-pub mod Balances
 pub mod Records
+pub mod Admissions
 pub mod Kept
-pub mod Settling
+pub mod Changing

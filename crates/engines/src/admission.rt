@@ -1,11 +1,13 @@
-ghost use Rattle.std.specs.Prelude.{◌≡◌, ◌≤◌, length, Ok, Err};
+ghost use Rattle.std.specs.Prelude.{◌≡◌, ◌<◌, ◌≤◌, length, Ok, Err};
 ghost use Rattle.network.specs.declared.valve.Valve.TheVariants.{Open, Closed};
 ghost use Rattle.network.specs.Changes as changes;
 ghost use Rattle.network.specs.Flows.{dry};
 ghost use Rattle.network.specs.Pipes.{network_of, flow_of};
+ghost use Rattle.formats.specs.declared.refusal.Refusal.TheVariants.{FewPlaces};
 ghost use Rattle.formats.specs.Spaces.{put_at};
 ghost use Rattle.formats.specs.Written.{sheet_of};
 ghost use Rattle.interface.specs.Verdicts.{loading, opening, closing, limiting, patterned, patterning, reporting, asking, writing, reading};
+ghost use Rattle.engines.specs.Admissions.{Numbered, Standing};
 ghost use Rattle.engines.specs.Records.{StandsFor};
 
 use crate::settled::Settled;
@@ -14,15 +16,27 @@ use formats::refusal::Refusal;
 use network::governing::governs;
 use network::pipe::Pipe;
 use network::report::Report;
-use network::table::{MOST_JUNCTIONS, Table};
+use network::table::{MOST_JUNCTIONS, MOST_LIMIT, Table};
 use network::valve::Valve;
 use texts::text::read_sheet;
 use writing::sheet_lines::try_put_sheet;
 
-// A call without text concerns no line.
+// A call without text concerns no line. Its refusals carry 0, which `Refusal::line` and a FAIL line say for no line:
+// an Option in each refusal would be None for these calls alone.
 const NO_LINE: usize = 0;
 
-const MOST_LIMIT: u32 = 60_000;
+// Passes a workspace of as many places as an engine may have junctions.
+fn admit_places(places: usize) -> Result<(), Refusal>
+    ensures { elim result [
+      | Ok _ ↦ 64 ≤ places
+      | Err e ↦ (places < 64) × (e ≡ FewPlaces)
+    ] }
+{
+    if places < MOST_JUNCTIONS {
+        return Err(Refusal::FewPlaces);
+    }
+    Ok(())
+}
 
 // The network of the sheet with which a text begins, with dry pipes, and the number of bytes taken.
 pub fn admit_load(text: &[u8], places: usize) -> Result<(Table, usize), Refusal>
@@ -31,13 +45,39 @@ pub fn admit_load(text: &[u8], places: usize) -> Result<(Table, usize), Refusal>
       | Err e ↦ loading 64 places text.now ≡ Err e
     ] }
 {
-    if places < MOST_JUNCTIONS {
-        return Err(Refusal::FewPlaces);
-    }
+    admit_places(places)?;
     read_sheet(text, MOST_JUNCTIONS)
 }
 
+// Each call states its own verdict, and tells its caller that the places are enough, since it is the caller's slice that
+// is used then.
 impl Settled {
+    // The pipe of that number.
+    fn admit_pipe(&self, pipe: usize, places: usize) -> Result<Pipe, Refusal>
+        ensures { Numbered places self.now.table pipe result }
+    {
+        admit_places(places)?;
+        self.table.pipe(pipe).ok_or(Refusal::NoSuchPipe)
+    }
+
+    // The same, if its valve is this one; otherwise the call is refused so.
+    fn admit_valve(
+        &self,
+        pipe: usize,
+        places: usize,
+        valve: Valve,
+        refusal: Refusal,
+    ) -> Result<Pipe, Refusal>
+        ensures { Standing places self.now.table pipe valve refusal result }
+    {
+        let old = self.admit_pipe(pipe, places)?;
+        if old.valve == valve {
+            Ok(old)
+        } else {
+            Err(refusal)
+        }
+    }
+
     // The pipe that is to be opened.
     pub fn admit_open(&self, pipe: usize, places: usize) -> Result<Pipe, Refusal>
         ensures { elim result [
@@ -46,16 +86,7 @@ impl Settled {
           | Err e ↦ opening 64 places (network_of self.now.table) pipe ≡ Err e
         ] }
     {
-        if places < MOST_JUNCTIONS {
-            return Err(Refusal::FewPlaces);
-        }
-        let Some(old) = self.table.pipe(pipe) else {
-            return Err(Refusal::NoSuchPipe);
-        };
-        match old.valve {
-            Valve::Open => Err(Refusal::AlreadyOpen),
-            Valve::Closed => Ok(old),
-        }
+        self.admit_valve(pipe, places, Valve::Closed, Refusal::AlreadyOpen)
     }
 
     // The pipe that is to be closed.
@@ -66,16 +97,7 @@ impl Settled {
           | Err e ↦ closing 64 places (network_of self.now.table) pipe ≡ Err e
         ] }
     {
-        if places < MOST_JUNCTIONS {
-            return Err(Refusal::FewPlaces);
-        }
-        let Some(old) = self.table.pipe(pipe) else {
-            return Err(Refusal::NoSuchPipe);
-        };
-        match old.valve {
-            Valve::Open => Ok(old),
-            Valve::Closed => Err(Refusal::AlreadyClosed),
-        }
+        self.admit_valve(pipe, places, Valve::Open, Refusal::AlreadyClosed)
     }
 
     // The pipe that is to have another limit.
@@ -86,12 +108,7 @@ impl Settled {
           | Err e ↦ limiting 64 places (network_of self.now.table) pipe limit ≡ Err e
         ] }
     {
-        if places < MOST_JUNCTIONS {
-            return Err(Refusal::FewPlaces);
-        }
-        let Some(old) = self.table.pipe(pipe) else {
-            return Err(Refusal::NoSuchPipe);
-        };
+        let old = self.admit_pipe(pipe, places)?;
         if limit < 1 || limit > MOST_LIMIT {
             return Err(Refusal::OutOfRange(NO_LINE));
         }
@@ -106,23 +123,18 @@ impl Settled {
           | Err e ↦ patterning 64 places (network_of self.now.table) letters.now ≡ Err e
         ] }
     {
-        if places < MOST_JUNCTIONS {
-            return Err(Refusal::FewPlaces);
-        }
+        admit_places(places)?;
         if letters.len() != self.table.count {
             return Err(Refusal::BadLine(NO_LINE));
         }
-        check_pattern(letters, NO_LINE)?;
-        Ok(())
+        check_pattern(letters, NO_LINE)
     }
 
     // The report.
     pub fn answer_report(&self, places: usize) -> Result<Report, Refusal>
         ensures { result ≡ reporting 64 places (network_of self.now.table) }
     {
-        if places < MOST_JUNCTIONS {
-            return Err(Refusal::FewPlaces);
-        }
+        admit_places(places)?;
         Ok(self.report)
     }
 
@@ -130,12 +142,7 @@ impl Settled {
     pub fn answer_governing(&self, pipe: usize, places: usize) -> Result<bool, Refusal>
         ensures { result ≡ asking 64 places (network_of self.now.table) pipe }
     {
-        if places < MOST_JUNCTIONS {
-            return Err(Refusal::FewPlaces);
-        }
-        if pipe >= self.table.count {
-            return Err(Refusal::NoSuchPipe);
-        }
+        let _ = self.admit_pipe(pipe, places)?;
         Ok(governs(&self.table, &self.report, pipe))
     }
 
@@ -156,13 +163,14 @@ impl Settled {
           | Err e ↦ (reading (length row.old) (network_of self.now.table) ≡ Err e) × (row.new ≡ row.old)
         ] }
     {
-        let count = self.table.count;
-        if row.len() < count {
+        let pipes = self.table.pipe_rows();
+        if row.len() < pipes.len() {
             return Err(Refusal::LittleSpace);
         }
-        for k in 0..count {
-            row[k] = self.table.rows[k].flow;
+        // By the pipe's number: of a row that is zipped with the pipes, nothing is known behind the loop.
+        for (k, pipe) in pipes.iter().enumerate() {
+            row[k] = pipe.flow;
         }
-        Ok(count)
+        Ok(pipes.len())
     }
 }

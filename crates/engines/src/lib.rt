@@ -1,9 +1,10 @@
 #![tactic(auto)]
 
 pub mod admission;
+pub mod calls;
 pub mod cold;
-pub mod cold_calls;
+pub mod keeper;
+pub mod keeping;
 pub mod settle;
 pub mod settled;
 pub mod warm;
-pub mod warm_calls;

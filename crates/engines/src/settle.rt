@@ -1,16 +1,15 @@
-ghost use Rattle.std.specs.Prelude.{◌≡◌, ◌+◌, ◌<◌, ◌≤◌, length};
+ghost use Rattle.std.specs.Prelude.{◌≡◌, ◌<◌, ◌≤◌, length};
 ghost use Rattle.network.specs.Changes.{with_pipe, with_limit, with_valve};
 ghost use Rattle.network.specs.Flows.{Flow, Greatest, dry, outflow, inflow};
 ghost use Rattle.network.specs.Network.{bare};
 ghost use Rattle.network.specs.Pipes.{network_of, flow_of};
-ghost use Rattle.network.specs.Reports.{report_of};
 ghost use Rattle.network.specs.Residual.{pipe};
 ghost use Rattle.interface.specs.Augmentations.{Fills};
-ghost use Rattle.engines.specs.Balances.{Balanced};
 ghost use Rattle.interface.specs.Verdicts.{change, patterned};
 
 use crate::settled::Settled;
-use augmenting::fill::fill;
+use augmenting::augmenter::Augmenter;
+use augmenting::greatest_flow::GreatestFlow;
 use augmenting::rows::{change_row, dry_out, set_valves};
 use augmenting::survey;
 use network::report::Report;
@@ -20,26 +19,14 @@ use network::valve::Valve;
 use paths::label::Label;
 use paths::metric::PathMetric;
 
-const NO_ROW: Row = Row {
-    from: 0,
-    to: 0,
-    limit: 0,
-    flow: 0,
-    valve: Valve::Closed,
-};
-
-// Fills dry pipes, and reports what came of it with the number of augmentations.
-pub fn settle<M: PathMetric>(table: &mut Table, labels: &mut [Label<M>]) -> (Report, u32)
-    requires places { table.old.junctions ≤ length labels.old }
-    requires dry { flow_of table.old ≡ dry (network_of table.old) }
-    ensures same { network_of table.new ≡ network_of table.old }
-    ensures balanced { Balanced (network_of table.new) (flow_of table.new) }
-    ensures valued { outflow (network_of table.new) (flow_of table.new) table.new.pump ≡ inflow (network_of table.new) (flow_of table.new) table.new.pump + result.0.value }
-    ensures report { result.0 ≡ report_of (network_of table.old) }
-    ensures count { Fills (network_of table.old) M.good M.start M.extended (dry (network_of table.old)) result.1 (flow_of table.new) }
+// The table with dry pipes.
+fn dried(table: &Table) -> Table
+    ensures same { network_of result ≡ network_of table.now }
+    ensures dry { flow_of result ≡ dry (network_of table.now) }
 {
-    let count = fill(table, labels);
-    (survey::report(table), count)
+    let mut dried = *table;
+    dry_out(&mut dried);
+    dried
 }
 
 // The table with its valves set by a letter for each pipe, and dry.
@@ -48,8 +35,7 @@ pub fn with_pattern(table: &Table, letters: &[u8]) -> Table
     ensures network { network_of result ≡ patterned (network_of table.now) letters.now }
     ensures dry { flow_of result ≡ dry (network_of result) }
 {
-    let mut set = *table;
-    dry_out(&mut set);
+    let mut set = dried(table);
     set_valves(&mut set, letters);
     set
 }
@@ -62,8 +48,7 @@ pub fn with_row(table: &Table, k: usize, limit: u32, valve: Valve) -> Table
     ensures network { network_of result ≡ with_pipe (network_of table.now) k (with_valve (with_limit (pipe (network_of table.now) k) limit) valve) }
     ensures dry { flow_of result ≡ dry (network_of result) }
 {
-    let mut changed = *table;
-    dry_out(&mut changed);
+    let mut changed = dried(table);
     change_row(&mut changed, k, limit, valve, 0);
     changed
 }
@@ -77,7 +62,7 @@ impl Settled {
             junctions: 2,
             pump: 0,
             outlet: 1,
-            rows: [NO_ROW; MOST_PIPES],
+            rows: [Row::UNUSED; MOST_PIPES],
             count: 0,
         };
         Settled {
@@ -90,13 +75,27 @@ impl Settled {
         }
     }
 
-    // A table whose flow is greatest, with the report of its network.
+    // A table whose flow is greatest, with the report of its network. It asks for that flow, so it is no `From`.
     pub fn from_table(table: Table) -> Settled
         requires { Greatest (network_of table) (flow_of table) }
         ensures { result.table ≡ table }
     {
         let report = survey::report(&table);
         Settled { table, report }
+    }
+
+    // The network with its greatest flow, to be changed and mended with these labels.
+    pub fn mending<'a, M>(&self, work: &'a mut [Label<M>]) -> GreatestFlow<'a, M>
+        requires places { self.now.table.junctions ≤ length work.old }
+        ensures table { result.augmenter.table ≡ self.now.table }
+        ensures labels { result.augmenter.labels.now ≡ work.old }
+    {
+        GreatestFlow {
+            augmenter: Augmenter {
+                table: self.table,
+                labels: work,
+            },
+        }
     }
 
     // Takes in a table whose flow is greatest, and answers the change of the greatest value.
@@ -107,7 +106,7 @@ impl Settled {
     {
         let before = self.report.value;
         let settled = Settled::from_table(table);
-        let change = settled.report.value as i64 - before as i64;
+        let change = i64::from(settled.report.value) - i64::from(before);
         *self = settled;
         change
     }
@@ -123,8 +122,22 @@ impl Settled {
         ensures count { Fills (network_of table) M.good M.start M.extended (flow_of table) result.1 (flow_of self.new.table) }
         ensures few { result.1 ≤ 30720000 }
     {
-        let mut table = table;
-        let count = fill(&mut table, work);
-        (self.replace(table), count)
+        let mut filling = Augmenter {
+            table,
+            labels: work,
+        };
+        let count = filling.fill();
+        (self.replace(filling.table), count)
+    }
+
+    // The same from dry pipes, which are a flow that brings nothing.
+    pub fn restart<M: PathMetric>(&mut self, table: Table, work: &mut [Label<M>]) -> (i64, u32)
+        requires places { table.junctions ≤ length work.old }
+        requires dry { flow_of table ≡ dry (network_of table) }
+        ensures same { network_of self.new.table ≡ network_of table }
+        ensures change { result.0 ≡ change (network_of self.old.table) (network_of self.new.table) }
+        ensures count { Fills (network_of self.new.table) M.good M.start M.extended (dry (network_of self.new.table)) result.1 (flow_of self.new.table) }
+    {
+        self.refill(table, work)
     }
 }

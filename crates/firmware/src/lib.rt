@@ -10,17 +10,13 @@ use paths::fewest::Fewest;
 use paths::label::Label;
 use rating::page::rate;
 
-// The entry for firmware: a text to rate, and the space for its page. It answers 0, or the number of the refusal.
+// The entry for firmware: a text to rate, and the space for its page. It answers 0, or the number of the refusal:
+// a number and no Result, since the entry in C (include/diljusk.h) hands it on as it is.
 pub fn diljusk_rate(text: &[u8], page: &mut [u8]) -> u32
     ensures { Rated text.now page.old result page.new }
 {
     let mut engine: WarmEngine<Fewest> = WarmEngine::new();
-    let unused = Label {
-        length: Fewest { pipes: 0, least: 0 },
-        steps: 0,
-        via: None,
-    };
-    let mut work = [unused; MOST_JUNCTIONS];
+    let mut work = [Label::unreached(); MOST_JUNCTIONS];
     match rate(&mut engine, text, &mut work, page) {
         Ok(_) => 0,
         Err(refusal) => refusal.number(),

@@ -1,8 +1,6 @@
 pub mod Digits
-pub mod Ends
+pub mod Fills
 pub mod Lengths
 pub mod Moves
 pub mod Numbers
-pub mod Patterns
-pub mod PipeLines
 pub mod StepLines

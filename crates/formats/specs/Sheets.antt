@@ -4,7 +4,7 @@ use Rattle.std.specs.Prelude.{ℕ, zero, suc, ◌+◌, ◌-◌, ◌*◌, ◌<◌
 use Rattle.network.specs.declared.valve.Valve.{Valve}
 use Rattle.network.specs.declared.row.Row.{Row}
 use Rattle.network.specs.Network.{Pipe, Network}
-use Rattle.network.specs.Rows.{Each, Joined, Limited, Dry}
+use Rattle.network.specs.Rows.{Joined, Limited, Dry}
 use Rattle.formats.specs.declared.refusal.Refusal.{Refusal}
 use Rattle.formats.specs.declared.refusal.Refusal.TheVariants.{BadLine, WrongKind, BadNumber, OutOfRange, WrongLetter, SameEnds}
 use Rattle.formats.specs.declared.header.Header.{Header}
@@ -25,6 +25,15 @@ of_kind kind bs = ((slice_index bs 0 == slice_index kind 0 && slice_index bs 1 =
 abbrev pub due : List ℕ → ℕ → ℕ → List ℕ → Result (List ℕ) Refusal
 due kind columns i bs =
     cond (ended bs && length (first_line bs) == columns) (cond (of_kind kind (first_line bs)) (Ok (first_line bs)) (Err (WrongKind i))) (Err (BadLine i))
+
+-- the next line, if it is due, and what it says
+abbrev pub next_in : {A : Type 0} → List ℕ → ℕ → (ℕ → List ℕ → Result A Refusal) → ℕ → List ℕ → Result A Refusal
+next_in kind columns says i bs = and_then (due kind columns i bs) (says i)
+
+-- k lines more, of which line i is the first, each read by `next`, after the items xs: all items, and the bytes that follow
+abbrev pub lines_in : {A : Type 0} → (ℕ → List ℕ → Result A Refusal) → ℕ → ℕ → List ℕ → List A → Result (List A × List ℕ) Refusal
+lines_in next zero i bs xs = Ok (xs, bs)
+lines_in next (suc k) i bs xs = and_then (next i bs) (λ x. lines_in next k (i + 1) (after_line bs) (xs ++ x ∷ []))
 
 abbrev pub ranged : ℕ → ℕ → ℕ → Option ℕ → Result ℕ Refusal
 ranged i least most None = Err (BadNumber i)
@@ -49,7 +58,7 @@ SoundHeader most h = (2 ≤ h.junctions) × (h.junctions ≤ most) × (h.pipes �
 
 -- the first line of a sheet, where the bytes begin with it
 abbrev pub header_in : ℕ → ℕ → List ℕ → Result Header Refusal
-header_in most i bs = and_then (due (codes "NETW") 24 i bs) (header most i)
+header_in most = next_in (codes "NETW") 24 (header most)
 
 -- columns 20 to 23 are blank
 abbrev pub blank : List ℕ → Bool
@@ -73,17 +82,15 @@ pipe_in junctions i bs =
     cond (from == to) (Err (SameEnds i)) (Ok (record { from = from; to = to; limit = limit; valve = v }))))))
 
 abbrev pub next_pipe_in : ℕ → ℕ → List ℕ → Result Pipe Refusal
-next_pipe_in junctions i bs = and_then (due (codes "PIPE") 24 i bs) (pipe_in junctions i)
+next_pipe_in junctions = next_in (codes "PIPE") 24 (pipe_in junctions)
 
--- rows that such lines give: sound, and with no flow
-abbrev pub DryRows : ℕ → List Row → ℕ → Type 0
-DryRows n rows count = Each (Joined n) rows count × Each Limited rows count × Each Dry rows count
+-- a row that such a line gives: sound, and with no flow
+abbrev pub DryRow : ℕ → Row → Type 0
+DryRow n row = Joined n row × Limited row × Dry row
 
 -- k pipe lines more, of which line i is the first, after the pipes ps: all pipes, and the bytes that follow
 abbrev pub pipes_in : ℕ → ℕ → ℕ → List ℕ → List Pipe → Result (List Pipe × List ℕ) Refusal
-pipes_in zero junctions i bs ps = Ok (ps, bs)
-pipes_in (suc k) junctions i bs ps =
-    and_then (next_pipe_in junctions i bs) (λ p. pipes_in k junctions (i + 1) (after_line bs) (ps ++ p ∷ []))
+pipes_in k junctions = lines_in (next_pipe_in junctions) k
 
 -- a sheet of at most so many junctions, whose first line is line i: its network, and the bytes that follow
 abbrev pub sheet_in : ℕ → ℕ → List ℕ → Result (Network × List ℕ) Refusal

@@ -1,27 +1,29 @@
-ghost use Rattle.std.specs.Prelude.{◌≡◌, ◌≤◌, length, drop, Some, None};
+ghost use Rattle.std.specs.Prelude.{◌≡◌, ◌≤◌, ◌&&◌, length, nat_le};
 ghost use Rattle.formats.specs.Fields.{digits_from, number_in};
+ghost use Rattle.formats.specs.Sheets.{of_kind};
 
 pub const BLANK: u8 = b' ';
 
-// One more than the greatest number that is read.
-const OVERFLOW: u64 = 4294967296;
+// A line begins with a kind word of four letters, and its number fields have five columns each.
+pub const KIND_COLUMNS: usize = 4;
 
-// The number that the digits from `from` on spell.
-fn digits(bytes: &[u8], from: usize) -> Option<u32>
-    requires { from ≤ length bytes.now }
-    ensures { result ≡ digits_from 0 (drop from bytes.now) }
+pub const FIELD_COLUMNS: usize = 5;
+
+// The columns of a line with one field behind its kind word, and of each line of a sheet.
+pub const COUNT_COLUMNS: usize = KIND_COLUMNS + FIELD_COLUMNS;
+
+pub const SHEET_COLUMNS: usize = KIND_COLUMNS + 4 * FIELD_COLUMNS;
+
+// The number that digits spell, if it fits.
+fn read_digits(digits: &[u8]) -> Option<u32>
+    ensures { result ≡ digits_from 0 digits.now }
 {
     let mut sum: u32 = 0;
-    for i in from..bytes.len() {
-        let b = bytes[i];
-        if b < b'0' || b > b'9' {
+    for digit in digits {
+        if !digit.is_ascii_digit() {
             return None;
         }
-        let more = sum as u64 * 10 + (b - b'0') as u64;
-        if more >= OVERFLOW {
-            return None;
-        }
-        sum = more as u32;
+        sum = sum.checked_mul(10)?.checked_add(u32::from(*digit - b'0'))?;
     }
     Some(sum)
 }
@@ -30,15 +32,20 @@ fn digits(bytes: &[u8], from: usize) -> Option<u32>
 pub fn read_number(field: &[u8]) -> Option<u32>
     ensures { result ≡ number_in field.now }
 {
-    let mut i = 0;
-    while i < field.len() && field[i] == BLANK {
-        i += 1;
+    let mut rest = field;
+    while let [BLANK, behind @ ..] = rest {
+        rest = behind;
     }
-    if i == field.len() {
-        return None;
+    match rest {
+        [b'0'] => Some(0),
+        [] | [b'0', ..] => None,
+        digits => read_digits(digits),
     }
-    if field[i] == b'0' {
-        return if i + 1 == field.len() { Some(0) } else { None };
-    }
-    digits(field, i)
+}
+
+// Whether bytes begin with a kind word.
+pub fn is_kind(bytes: &[u8], kind: &[u8; 4]) -> bool
+    ensures { result ≡ (nat_le 4 (length bytes.now) && of_kind kind.now bytes.now) }
+{
+    bytes.starts_with(kind)
 }

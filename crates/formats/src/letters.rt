@@ -6,6 +6,10 @@ use crate::refusal::Refusal;
 use crate::setting::Setting;
 use network::valve::Valve;
 
+// Two functions, and no TryFrom<u8>: a Valve is of a crate that knows no letters, a letter means one thing in a sheet
+// and another in a pattern, and callers name the line of a letter that means nothing, so an error of its own would say
+// no more than None.
+
 // The valve that a letter of a sheet means.
 pub fn read_valve(letter: u8) -> Option<Valve>
     ensures { result ≡ valve_of letter }

@@ -2,6 +2,7 @@
 
 pub mod fields;
 pub mod header;
+mod kind;
 pub mod letters;
 pub mod lines;
 pub mod reader;

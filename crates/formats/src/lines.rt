@@ -1,24 +1,16 @@
-ghost use Rattle.std.specs.Prelude.{◌≡◌, ◌+◌, ◌<◌, ◌≤◌, true, false, length, drop, Some, None, ◌==◌};
-ghost use Rattle.std.specs.List.{prefix_len};
-ghost use Rattle.formats.specs.Lines.{in_line, ended, first_line};
+ghost use Rattle.std.specs.Prelude.{◌≡◌, ◌+◌, true, false, length, Some, None, ◌==◌, position};
+ghost use Rattle.formats.specs.Lines.{ended, first_line};
 ghost use Rattle.formats.specs.Readers.{rest, Advanced};
 
 use crate::reader::{Line, Reader};
 
-const LINE_FEED: u8 = b'\n';
+pub const LINE_FEED: u8 = b'\n';
 
-// Where the line that begins at `at` ends: at its line feed, or at the end of the text.
-fn line_end(text: &[u8], at: usize) -> usize
-    requires { at ≤ length text.now }
-    ensures is { result ≡ at + prefix_len in_line (drop at text.now) }
-    ensures within { result ≤ length text.now }
-    ensures past { at ≤ result }
+// How long the line is that a text begins with; None where no line feed is there.
+fn line_length(text: &[u8]) -> Option<usize>
+    ensures { result ≡ position (λ b. b == 10) text.now }
 {
-    let mut i = at;
-    while i < text.len() && text[i] != LINE_FEED {
-        i += 1;
-    }
-    i
+    text.iter().position(|b| *b == LINE_FEED)
 }
 
 impl<'a> Reader<'a> {
@@ -42,10 +34,7 @@ impl<'a> Reader<'a> {
               × Advanced self.old self.new
         ] }
     {
-        let end = line_end(self.text, self.at);
-        if end == self.text.len() {
-            return None;
-        }
+        let end = self.at + line_length(&self.text[self.at..])?;
         let bytes = &self.text[self.at..end];
         let number = self.lines + 1;
         self.lines = number;

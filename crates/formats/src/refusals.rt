@@ -4,7 +4,8 @@ ghost use Rattle.formats.specs.Refusals.{number, line};
 use crate::refusal::Refusal;
 
 impl Refusal {
-    // The number that users know the reason by.
+    // The number that users know the reason by: FAIL lines and C programs have it, so it is written out here and follows
+    // no order of variants.
     pub fn number(&self) -> u32
         ensures { result ≡ number self.now }
     {
@@ -23,7 +24,7 @@ impl Refusal {
         }
     }
 
-    // The line that is concerned, or 0 if none is.
+    // The line that is concerned, or 0 if none is: a FAIL line has a number there in either case.
     pub fn line(&self) -> usize
         ensures { result ≡ line self.now }
     {

@@ -1,34 +1,24 @@
-ghost use Rattle.std.specs.Prelude.{◌≡◌, ◌+◌, ◌-◌, ◌*◌, ◌<◌, ◌≤◌, true, false, [], map, length, take, IfOk, Ok, Err};
-ghost use Rattle.network.specs.Rows.{Each, Joined, Limited, Dry};
+ghost use Rattle.std.specs.Prelude.{◌≡◌, ◌+◌, ◌*◌, ◌≤◌, true, false, length, IfOk, Ok, Err, codes};
+ghost use Rattle.network.specs.Network.{Pipe};
+ghost use Rattle.network.specs.Rows.{Each, Dry};
 ghost use Rattle.network.specs.Pipes.{pipe_of, network_of};
 ghost use Rattle.formats.specs.Lines.{ended};
 ghost use Rattle.formats.specs.Readers.{rest, Advanced, Went};
-ghost use Rattle.formats.specs.Sheets.{of_kind, due, number_at, header, valve_at, pipe_in, header_in, next_pipe_in, pipes_in, sheet_in, SoundHeader, DryRows};
+ghost use Rattle.formats.specs.Sheets.{due, number_at, header, valve_at, pipe_in, sheet_in, SoundHeader, DryRow};
+ghost use Rattle.formats.specs.declared.header.Header.{Header};
 
-use crate::fields::{BLANK, read_number};
+use crate::fields::{BLANK, FIELD_COLUMNS, KIND_COLUMNS, SHEET_COLUMNS, is_kind, read_number};
 use crate::header::Header;
+use crate::kind::Kind;
 use crate::letters::read_valve;
 use crate::reader::{Line, Reader};
 use crate::refusal::Refusal;
 use network::row::Row;
-use network::table::{MOST_PIPES, Table};
+use network::table::{MOST_LIMIT, MOST_PIPES, Table};
 use network::valve::Valve;
 
-// A line begins with a kind word of four letters, and its number fields have five columns each.
-const KIND_COLUMNS: usize = 4;
-
-const FIELD_COLUMNS: usize = 5;
-
-const SHEET_COLUMNS: usize = 24;
-
-const MOST_LIMIT: usize = 60_000;
-
-fn is_kind(bytes: &[u8], kind: &[u8; 4]) -> bool
-    requires { 4 ≤ length bytes.now }
-    ensures { result ≡ of_kind kind.now bytes.now }
-{
-    (bytes[0] == kind[0]) & (bytes[1] == kind[1]) & (bytes[2] == kind[2]) & (bytes[3] == kind[3])
-}
+// Where the blank columns of a pipe line begin.
+const BLANKS_START: usize = KIND_COLUMNS + 3 * FIELD_COLUMNS;
 
 impl<'a> Reader<'a> {
     // The next line, if it is the one that is due. Another line is passed over too.
@@ -67,28 +57,67 @@ impl Line<'_> {
         ensures within { IfOk result (λ n. (least ≤ n) × (n ≤ most)) }
     {
         let from = KIND_COLUMNS + FIELD_COLUMNS * k;
-        let Some(n) = read_number(&self.bytes[from..from + FIELD_COLUMNS]) else {
+        let Some(n) = read_number(&self.bytes[from..][..FIELD_COLUMNS]) else {
             return Err(Refusal::BadNumber(self.number));
         };
         let n = n as usize;
-        if n < least || n > most {
-            Err(Refusal::OutOfRange(self.number))
-        } else {
+        if (least..=most).contains(&n) {
             Ok(n)
+        } else {
+            Err(Refusal::OutOfRange(self.number))
         }
     }
 
-    fn header(&self, most: usize) -> Result<Header, Refusal>
+    fn valve(&self) -> Result<Valve, Refusal>
         requires { length self.now.bytes.now ≡ 24 }
-        ensures is { result ≡ header most self.now.number self.now.bytes.now }
-        ensures sound { IfOk result (SoundHeader most) }
+        ensures { result ≡ valve_at self.now.number self.now.bytes.now }
     {
-        let junctions = self.field(0, 2, most)?;
-        let pipes = self.field(1, 0, MOST_PIPES)?;
-        let pump = self.field(2, 0, junctions - 1)?;
-        let outlet = self.field(3, 0, junctions - 1)?;
+        // columns 20 to 23 are blank, and column 24 has the valve's letter
+        match &self.bytes[BLANKS_START..] {
+            [BLANK, BLANK, BLANK, BLANK, letter] => {
+                read_valve(*letter).ok_or(Refusal::WrongLetter(self.number))
+            }
+            _ => Err(Refusal::BadNumber(self.number)),
+        }
+    }
+}
+
+// The first line of a sheet, with the most junctions that it may name.
+#[derive(Clone, Copy)]
+struct HeaderLine {
+    most: usize,
+}
+
+impl<'a> Kind<'a> for HeaderLine {
+    type Told = Header;
+
+    ghost Meaning = { Header };
+
+    ghost meaning = { λ h. h };
+
+    ghost word = { codes "NETW" };
+
+    ghost columns = { λ k. 24 };
+
+    ghost says = { λ k. header k.most };
+
+    ghost Sound = { λ k. SoundHeader k.most };
+
+    fn word(&self) -> &'static [u8; 4] {
+        b"NETW"
+    }
+
+    fn columns(&self) -> usize {
+        SHEET_COLUMNS
+    }
+
+    fn read(&self, line: &Line<'a>) -> Result<Header, Refusal> {
+        let junctions = line.field(0, 2, self.most)?;
+        let pipes = line.field(1, 0, MOST_PIPES)?;
+        let pump = line.field(2, 0, junctions - 1)?;
+        let outlet = line.field(3, 0, junctions - 1)?;
         if pump == outlet {
-            return Err(Refusal::SameEnds(self.number));
+            return Err(Refusal::SameEnds(line.number));
         }
         Ok(Header {
             junctions,
@@ -97,36 +126,45 @@ impl Line<'_> {
             outlet,
         })
     }
+}
 
-    fn valve(&self) -> Result<Valve, Refusal>
-        requires { length self.now.bytes.now ≡ 24 }
-        ensures { result ≡ valve_at self.now.number self.now.bytes.now }
-    {
-        // columns 20 to 23 are blank, and column 24 has the valve's letter
-        let b = self.bytes;
-        if (b[19] != BLANK) | (b[20] != BLANK) | (b[21] != BLANK) | (b[22] != BLANK) {
-            return Err(Refusal::BadNumber(self.number));
-        }
-        match read_valve(b[23]) {
-            Some(valve) => Ok(valve),
-            None => Err(Refusal::WrongLetter(self.number)),
-        }
+// A pipe line of a sheet, between so many junctions.
+#[derive(Clone, Copy)]
+struct PipeLine {
+    junctions: usize,
+    ghost some: { 1 ≤ junctions },
+}
+
+impl<'a> Kind<'a> for PipeLine {
+    type Told = Row;
+
+    ghost Meaning = { Pipe };
+
+    ghost meaning = { pipe_of };
+
+    ghost word = { codes "PIPE" };
+
+    ghost columns = { λ k. 24 };
+
+    ghost says = { λ k. pipe_in k.junctions };
+
+    ghost Sound = { λ k. DryRow k.junctions };
+
+    fn word(&self) -> &'static [u8; 4] {
+        b"PIPE"
     }
 
-    fn pipe(&self, junctions: usize) -> Result<Row, Refusal>
-        requires long { length self.now.bytes.now ≡ 24 }
-        requires some { 1 ≤ junctions }
-        ensures { elim result [
-          | Ok row ↦ (pipe_in junctions self.now.number self.now.bytes.now ≡ Ok (pipe_of row)) × (row.flow ≡ 0) × Joined junctions row × Limited row
-          | Err e ↦ pipe_in junctions self.now.number self.now.bytes.now ≡ Err e
-        ] }
-    {
-        let from = self.field(0, 0, junctions - 1)?;
-        let to = self.field(1, 0, junctions - 1)?;
-        let limit = self.field(2, 1, MOST_LIMIT)?;
-        let valve = self.valve()?;
+    fn columns(&self) -> usize {
+        SHEET_COLUMNS
+    }
+
+    fn read(&self, line: &Line<'a>) -> Result<Row, Refusal> {
+        let from = line.field(0, 0, self.junctions - 1)?;
+        let to = line.field(1, 0, self.junctions - 1)?;
+        let limit = line.field(2, 1, MOST_LIMIT as usize)?;
+        let valve = line.valve()?;
         if from == to {
-            return Err(Refusal::SameEnds(self.number));
+            return Err(Refusal::SameEnds(line.number));
         }
         Ok(Row {
             from,
@@ -138,58 +176,7 @@ impl Line<'_> {
     }
 }
 
-const NO_ROW: Row = Row {
-    from: 0,
-    to: 0,
-    limit: 0,
-    flow: 0,
-    valve: Valve::Closed,
-};
-
 impl Reader<'_> {
-    fn next_header(&mut self, most: usize) -> Result<Header, Refusal>
-        ensures { elim result [
-          | Ok h ↦ (header_in most (self.old.lines + 1) (rest self.old) ≡ Ok h)
-              × SoundHeader most h
-              × Advanced self.old self.new
-          | Err e ↦ header_in most (self.old.lines + 1) (rest self.old) ≡ Err e
-        ] }
-    {
-        let line = self.due(b"NETW", SHEET_COLUMNS)?;
-        line.header(most)
-    }
-
-    fn next_pipe(&mut self, junctions: usize) -> Result<Row, Refusal>
-        requires { 1 ≤ junctions }
-        ensures { elim result [
-          | Ok row ↦ (next_pipe_in junctions (self.old.lines + 1) (rest self.old) ≡ Ok (pipe_of row))
-              × (row.flow ≡ 0) × Joined junctions row × Limited row
-              × Advanced self.old self.new
-          | Err e ↦ next_pipe_in junctions (self.old.lines + 1) (rest self.old) ≡ Err e
-        ] }
-    {
-        let line = self.due(b"PIPE", SHEET_COLUMNS)?;
-        line.pipe(junctions)
-    }
-
-    // The pipe lines of a sheet, into the first rows.
-    fn pipes(&mut self, junctions: usize, count: usize, rows: &mut [Row]) -> Result<(), Refusal>
-        requires some { 1 ≤ junctions }
-        requires held { count ≤ length rows.old }
-        ensures { elim result [
-          | Ok u ↦ (pipes_in count junctions (self.old.lines + 1) (rest self.old) [] ≡ Ok (map pipe_of (take count rows.new), rest self.new))
-              × DryRows junctions rows.new count
-              × Went count self.old self.new
-          | Err e ↦ pipes_in count junctions (self.old.lines + 1) (rest self.old) [] ≡ Err e
-        ] }
-    {
-        for k in 0..count {
-            let row = self.next_pipe(junctions)?;
-            rows[k] = row;
-        }
-        Ok(())
-    }
-
     // The network of a sheet, with dry pipes.
     pub fn sheet(&mut self, most: usize) -> Result<Table, Refusal>
         requires { most ≤ 64 }
@@ -206,9 +193,9 @@ impl Reader<'_> {
             pipes,
             pump,
             outlet,
-        } = self.next_header(most)?;
-        let mut rows = [NO_ROW; MOST_PIPES];
-        self.pipes(junctions, pipes, &mut rows)?;
+        } = self.read_line(&HeaderLine { most })?;
+        let mut rows = [Row::UNUSED; MOST_PIPES];
+        self.fill(&PipeLine { junctions }, &mut rows[..pipes])?;
         Ok(Table {
             junctions,
             pump,

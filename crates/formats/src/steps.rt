@@ -1,82 +1,102 @@
-ghost use Rattle.std.specs.Prelude.{◌≡◌, ◌+◌, ◌-◌, ◌<◌, ◌≤◌, [], map, length, take, drop, Ok, Err};
+ghost use Rattle.std.specs.Prelude.{◌≡◌, ℕ, ◌+◌, ◌≤◌, map, length, take, drop, Ok, Err, codes};
 ghost use Rattle.std.specs.List.{AllByRecursion};
-ghost use Rattle.formats.specs.Readers.{rest, Advanced, Went};
-ghost use Rattle.formats.specs.Schedules.{SoundStep, step_in, next_step_in, steps_in, next_count_in, schedule_in, timed};
+ghost use Rattle.formats.specs.Readers.{rest, Went};
+ghost use Rattle.formats.specs.Schedules.{Timed, SoundStep, step_in, schedule_in, timed};
+ghost use Rattle.formats.specs.Sheets.{number_at};
 
+use crate::fields::COUNT_COLUMNS;
+use crate::kind::Kind;
 use crate::letters::check_pattern;
 use crate::reader::{Line, Reader};
 use crate::refusal::Refusal;
 use crate::schedule::{MOST_STEPS, TimedPattern};
 
-// A line with one number field has so many columns, and a pattern begins behind them.
-const COUNT_COLUMNS: usize = 9;
-
 const MOST_MINUTES: usize = 1_440;
 
-impl<'a> Line<'a> {
-    fn step(&self) -> Result<TimedPattern<'a>, Refusal>
-        requires { 9 ≤ length self.now.bytes.now }
+// The first line of a schedule.
+#[derive(Clone, Copy)]
+struct CountLine;
+
+impl<'a> Kind<'a> for CountLine {
+    type Told = usize;
+
+    ghost Meaning = { ℕ };
+
+    ghost meaning = { λ n. n };
+
+    ghost word = { codes "SCHD" };
+
+    ghost columns = { λ k. 9 };
+
+    ghost says = { λ k i. number_at i 0 1 100 };
+
+    ghost Sound = { λ k n. (1 ≤ n) × (n ≤ 100) };
+
+    fn word(&self) -> &'static [u8; 4] {
+        b"SCHD"
+    }
+
+    fn columns(&self) -> usize {
+        COUNT_COLUMNS
+    }
+
+    fn read(&self, line: &Line<'a>) -> Result<usize, Refusal> {
+        line.field(0, 1, MOST_STEPS)
+    }
+}
+
+// A step line of a schedule, with a letter for each of so many pipes.
+#[derive(Clone, Copy)]
+struct StepLine {
+    pipes: usize,
+    ghost few: { pipes ≤ 512 },
+}
+
+impl<'a> Kind<'a> for StepLine {
+    type Told = TimedPattern<'a>;
+
+    ghost Meaning = { Timed };
+
+    ghost meaning = { timed };
+
+    ghost word = { codes "STEP" };
+
+    ghost columns = { λ k. 9 + k.pipes };
+
+    ghost says = { λ k. step_in };
+
+    ghost Sound = { λ k s. SoundStep k.pipes (timed s) };
+
+    fn word(&self) -> &'static [u8; 4]
+        ensures { result.now ≡ codes "STEP" }
+    {
+        b"STEP"
+    }
+
+    fn columns(&self) -> usize
+        ensures is { result ≡ 9 + self.now.pipes }
+        ensures worded { 4 ≤ result }
+    {
+        COUNT_COLUMNS + self.pipes
+    }
+
+    fn read(&self, line: &Line<'a>) -> Result<TimedPattern<'a>, Refusal>
+        requires { length line.now.bytes.now ≡ 9 + self.now.pipes }
         ensures { elim result [
-          | Ok s ↦ (step_in self.now.number self.now.bytes.now ≡ Ok (timed s)) × SoundStep (length self.now.bytes.now - 9) (timed s)
-          | Err e ↦ step_in self.now.number self.now.bytes.now ≡ Err e
+          | Ok s ↦ (step_in line.now.number line.now.bytes.now ≡ Ok (timed s)) × SoundStep self.now.pipes (timed s)
+          | Err e ↦ step_in line.now.number line.now.bytes.now ≡ Err e
         ] }
     {
-        let minutes = self.field(0, 1, MOST_MINUTES)?;
-        let letters = &self.bytes[COUNT_COLUMNS..];
-        check_pattern(letters, self.number)?;
+        let minutes = line.field(0, 1, MOST_MINUTES)?;
+        let letters = &line.bytes[COUNT_COLUMNS..];
+        check_pattern(letters, line.number)?;
         Ok(TimedPattern { minutes, letters })
     }
 }
 
 impl<'a> Reader<'a> {
-    fn next_step(&mut self, pipes: usize) -> Result<TimedPattern<'a>, Refusal>
-        requires { pipes ≤ 512 }
-        ensures { elim result [
-          | Ok s ↦ (next_step_in pipes (self.old.lines + 1) (rest self.old) ≡ Ok (timed s)) × SoundStep pipes (timed s)
-              × Advanced self.old self.new
-          | Err e ↦ next_step_in pipes (self.old.lines + 1) (rest self.old) ≡ Err e
-        ] }
-    {
-        let line = self.due(b"STEP", COUNT_COLUMNS + pipes)?;
-        line.step()
-    }
-
-    fn next_count(&mut self) -> Result<usize, Refusal>
-        ensures { elim result [
-          | Ok n ↦ (next_count_in (self.old.lines + 1) (rest self.old) ≡ Ok n) × (1 ≤ n) × (n ≤ 100)
-              × Advanced self.old self.new
-          | Err e ↦ next_count_in (self.old.lines + 1) (rest self.old) ≡ Err e
-        ] }
-    {
-        let line = self.due(b"SCHD", COUNT_COLUMNS)?;
-        line.field(0, 1, MOST_STEPS)
-    }
-
-    // The step lines of a schedule, into the first elements.
-    fn steps(
-        &mut self,
-        pipes: usize,
-        count: usize,
-        steps: &mut [TimedPattern<'a>],
-    ) -> Result<(), Refusal>
-        requires few { pipes ≤ 512 }
-        requires held { count ≤ length steps.old }
-        ensures { elim result [
-          | Ok u ↦ (steps_in count pipes (self.old.lines + 1) (rest self.old) [] ≡ Ok (map timed (take count steps.new), rest self.new))
-              × AllByRecursion (SoundStep pipes) (map timed (take count steps.new))
-              × Went count self.old self.new
-              × (drop count steps.new ≡ drop count steps.old)
-          | Err e ↦ steps_in count pipes (self.old.lines + 1) (rest self.old) [] ≡ Err e
-        ] }
-    {
-        for k in 0..count {
-            let step = self.next_step(pipes)?;
-            steps[k] = step;
-        }
-        Ok(())
-    }
-
-    // A schedule for so many pipes, up to the end of the text: its steps go into the first elements, and the answer is their number. The elements beyond stay.
+    // A schedule for so many pipes, up to the end of the text: its steps go into the first elements, and the answer is
+    // their number, since the array is the caller's and no heap is there. The elements beyond stay.
     pub fn schedule(
         &mut self,
         pipes: usize,
@@ -94,8 +114,8 @@ impl<'a> Reader<'a> {
           | Err e ↦ schedule_in pipes (self.old.lines + 1) (rest self.old) ≡ Err e
         ] }
     {
-        let count = self.next_count()?;
-        self.steps(pipes, count, steps)?;
+        let count = self.read_line(&CountLine)?;
+        self.fill(&StepLine { pipes }, &mut steps[..count])?;
         if self.at_end() {
             Ok(count)
         } else {

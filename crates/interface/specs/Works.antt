@@ -1,5 +1,5 @@
 -- How an engine comes from the flow that it kept before a change to the one that it keeps after it.
-use Rattle.std.specs.Prelude.{◌≡◌, ℕ, suc, ◌+◌, ◌-◌, ◌<◌, ◌≤◌, List, Some, ◌≢◌, slice_index, slice_set}
+use Rattle.std.specs.Prelude.{◌≡◌, ℕ, suc, ◌+◌, ◌-◌, ◌<◌, ◌≤◌, List, Some, Ok, Err, Result, ℤ, ◌≢◌, slice_index, slice_set}
 use Rattle.network.specs.declared.valve.Valve as valve
 use Rattle.network.specs.Changes.{with_pipe, with_limit, with_valve, opening, closing, limiting}
 use Rattle.network.specs.Flows.{dry}
@@ -8,7 +8,8 @@ use Rattle.network.specs.Residual.{pipe, size, carried}
 use Rattle.formats.specs.declared.setting.Setting.TheVariants.{Closed}
 use Rattle.formats.specs.Letters.{setting_of}
 use Rattle.interface.specs.Augmentations.{Fills, Mends}
-use Rattle.interface.specs.Verdicts.{patterned}
+use Rattle.formats.specs.declared.refusal.Refusal.{Refusal}
+use Rattle.interface.specs.Verdicts.{change, patterned}
 
 -- what a call makes of a network: another one, one pipe opened, closed or limited, or all valves set by letters
 pub data Change : Type 0 where
@@ -63,3 +64,9 @@ Warms good start extended w f (lettered bs) n g = Sets good start extended w f b
 abbrev pub Works : {Λ : Type 0} → Manner → (Λ → Λ → Type 0) → Λ → (Λ → ℕ → Λ) → Network → List ℕ → Change → ℕ → List ℕ → Type 0
 Works warm good start extended w f c n g = Warms good start extended w f c n g
 Works cold good start extended w f c n g = Fills (after w c) good start extended (dry (after w c)) n g
+
+-- a call that changes the network, by its verdict: it is carried out, and answers the change of the greatest value and the number of augmentations;
+-- or it is refused, and engine and workspace are as they were
+abbrev pub Changes : {E P : Type 0} → (E → Network) → (E → Change → E → ℕ → Type 0) → Result Network Refusal → Change → E → E → List P → List P → Result (ℤ × ℕ) Refusal → Type 0
+Changes meaning counted verdict c old new before after (Ok d) = (verdict ≡ Ok (meaning new)) × (d.0 ≡ change (meaning old) (meaning new)) × counted old c new d.1
+Changes meaning counted verdict c old new before after (Err e) = (verdict ≡ Err e) × (new ≡ old) × (after ≡ before)

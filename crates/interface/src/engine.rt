@@ -5,8 +5,8 @@ ghost use Rattle.network.specs.Reaches.{Reached, Apart};
 ghost use Rattle.network.specs.Reports.{report_of};
 ghost use Rattle.formats.specs.Spaces.{put_at};
 ghost use Rattle.formats.specs.Written.{sheet_of};
-ghost use Rattle.interface.specs.Verdicts.{loading, opening, closing, limiting, patterning, reporting, asking, writing, reading, change};
-ghost use Rattle.interface.specs.Works.{Change, loaded, opened, closed, limited, lettered, Manner, Works};
+ghost use Rattle.interface.specs.Verdicts.{loading, opening, closing, limiting, patterning, reporting, asking, writing, reading};
+ghost use Rattle.interface.specs.Works.{Change, Changes, loaded, opened, closed, limited, lettered, Manner, Works};
 
 use formats::refusal::Refusal;
 use network::report::Report;
@@ -18,12 +18,12 @@ pub trait Engine {
     // The most junctions that the engine takes, and so the fewest workspace places that it asks for.
     const MOST_JUNCTIONS: usize;
 
+    ghost MOST_JUNCTIONS: { ℕ };
+
     // An element of the workspace.
     type Place;
 
     ghost meaning: { Self → Network };
-
-    ghost most: { ℕ };
 
     // so many augmentations led from the first state by the change to the second
     ghost counted: { Self → Change → Self → ℕ → Type 0 };
@@ -32,35 +32,22 @@ pub trait Engine {
     fn new() -> Self
         ensures { meaning result ≡ bare };
 
-    // The associated constant, as a value that clauses speak of.
-    fn junction_bound() -> usize
-        ensures { result ≡ most };
-
     // The network becomes that of the sheet with which the text begins. The answer is the number of bytes taken.
     fn load(&mut self, text: &[u8], work: &mut [Self::Place]) -> Result<usize, Refusal>
         ensures { elim result [
-          | Ok n ↦ (loading most (length work.old) text.now ≡ Ok (meaning self.new, n))
+          | Ok n ↦ (loading MOST_JUNCTIONS (length work.old) text.now ≡ Ok (meaning self.new, n))
               × ((m : ℕ) × counted self.old (loaded (meaning self.new)) self.new m)
-          | Err e ↦ (loading most (length work.old) text.now ≡ Err e) × (self.new ≡ self.old) × (work.new ≡ work.old)
+          | Err e ↦ (loading MOST_JUNCTIONS (length work.old) text.now ≡ Err e) × (self.new ≡ self.old) × (work.new ≡ work.old)
         ] };
 
-    // The valve of a closed pipe opens. The answer is the change of the greatest value, and the number of augmentations.
+    // The valve of a closed pipe opens. The answer is a pair: the change of the greatest value, and the number of
+    // augmentations.
     fn open(&mut self, pipe: usize, work: &mut [Self::Place]) -> Result<(i64, u32), Refusal>
-        ensures { elim result [
-          | Ok d ↦ (opening most (length work.old) (meaning self.old) pipe ≡ Ok (meaning self.new))
-              × (d.0 ≡ change (meaning self.old) (meaning self.new))
-              × counted self.old (opened pipe) self.new d.1
-          | Err e ↦ (opening most (length work.old) (meaning self.old) pipe ≡ Err e) × (self.new ≡ self.old) × (work.new ≡ work.old)
-        ] };
+        ensures { Changes meaning counted (opening MOST_JUNCTIONS (length work.old) (meaning self.old) pipe) (opened pipe) self.old self.new work.old work.new result };
 
     // The valve of an open pipe closes. The answer is as for opening.
     fn close(&mut self, pipe: usize, work: &mut [Self::Place]) -> Result<(i64, u32), Refusal>
-        ensures { elim result [
-          | Ok d ↦ (closing most (length work.old) (meaning self.old) pipe ≡ Ok (meaning self.new))
-              × (d.0 ≡ change (meaning self.old) (meaning self.new))
-              × counted self.old (closed pipe) self.new d.1
-          | Err e ↦ (closing most (length work.old) (meaning self.old) pipe ≡ Err e) × (self.new ≡ self.old) × (work.new ≡ work.old)
-        ] };
+        ensures { Changes meaning counted (closing MOST_JUNCTIONS (length work.old) (meaning self.old) pipe) (closed pipe) self.old self.new work.old work.new result };
 
     // A pipe, open or closed, gets another limit, which may be the one it had. The answer is as for opening.
     fn limit(
@@ -69,30 +56,20 @@ pub trait Engine {
         limit: u32,
         work: &mut [Self::Place],
     ) -> Result<(i64, u32), Refusal>
-        ensures { elim result [
-          | Ok d ↦ (limiting most (length work.old) (meaning self.old) pipe limit ≡ Ok (meaning self.new))
-              × (d.0 ≡ change (meaning self.old) (meaning self.new))
-              × counted self.old (limited pipe limit) self.new d.1
-          | Err e ↦ (limiting most (length work.old) (meaning self.old) pipe limit ≡ Err e) × (self.new ≡ self.old) × (work.new ≡ work.old)
-        ] };
+        ensures { Changes meaning counted (limiting MOST_JUNCTIONS (length work.old) (meaning self.old) pipe limit) (limited pipe limit) self.old self.new work.old work.new result };
 
     // All valves are set by a letter for each pipe. The answer is as for opening.
     fn pattern(&mut self, letters: &[u8], work: &mut [Self::Place]) -> Result<(i64, u32), Refusal>
-        ensures { elim result [
-          | Ok d ↦ (patterning most (length work.old) (meaning self.old) letters.now ≡ Ok (meaning self.new))
-              × (d.0 ≡ change (meaning self.old) (meaning self.new))
-              × counted self.old (lettered letters.now) self.new d.1
-          | Err e ↦ (patterning most (length work.old) (meaning self.old) letters.now ≡ Err e) × (self.new ≡ self.old) × (work.new ≡ work.old)
-        ] };
+        ensures { Changes meaning counted (patterning MOST_JUNCTIONS (length work.old) (meaning self.old) letters.now) (lettered letters.now) self.old self.new work.old work.new result };
 
     // The least capacity, the junctions in every minimum cut and those in at least one.
     fn report(&self, work: &mut [Self::Place]) -> Result<Report, Refusal>
-        ensures answer { result ≡ reporting most (length work.old) (meaning self.now) }
+        ensures answer { result ≡ reporting MOST_JUNCTIONS (length work.old) (meaning self.now) }
         ensures kept { OnErr result (work.new ≡ work.old) };
 
     // Whether a pipe is governing.
     fn governing(&self, pipe: usize, work: &mut [Self::Place]) -> Result<bool, Refusal>
-        ensures answer { result ≡ asking most (length work.old) (meaning self.now) pipe }
+        ensures answer { result ≡ asking MOST_JUNCTIONS (length work.old) (meaning self.now) pipe }
         ensures kept { OnErr result (work.new ≡ work.old) };
 
     // The sheet of the network goes to the front of the space; bytes beyond it stay. The answer is its length.
@@ -102,9 +79,9 @@ pub trait Engine {
           | Err e ↦ (writing (length space.old) (meaning self.now) ≡ Err e) × (space.new ≡ space.old)
         ] };
 
-    ghost sized: { (2 ≤ most) × (most ≤ 64) };
+    ghost sized: { (2 ≤ MOST_JUNCTIONS) × (MOST_JUNCTIONS ≤ 64) };
 
-    ghost sound: { (e : Self) → Sound (meaning e) × ((meaning e).junctions ≤ most) };
+    ghost sound: { (e : Self) → Sound (meaning e) × ((meaning e).junctions ≤ MOST_JUNCTIONS) };
 }
 
 // An engine that keeps a flow, which is greatest, and comes to it by augmentations along best paths of its metric.
@@ -115,7 +92,8 @@ pub trait FlowEngine: Engine {
 
     ghost kept: { Self → List ℕ };
 
-    // The kept flow goes to the front of the row, a number for each pipe; numbers beyond it stay. The answer is how many there are.
+    // The kept flow goes to the front of the row, a number for each pipe; numbers beyond it stay. The answer is how many
+    // there are.
     fn read_flow(&self, row: &mut [u32]) -> Result<usize, Refusal>
         ensures { elim result [
           | Ok n ↦ (reading (length row.old) (Self.Engine.meaning self.now) ≡ Ok n) × (row.new ≡ put_at 0 (kept self.now) row.old)

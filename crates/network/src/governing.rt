@@ -8,7 +8,8 @@ use crate::sets::holds;
 use crate::table::Table;
 use crate::valve::Valve;
 
-// Whether pipe k is governing by a report. By the network's own report it is so exactly where one litre more on its limit raises the greatest value.
+// Whether pipe k is governing by a report. By the network's own report it is so exactly where one litre more on its
+// limit raises the greatest value.
 pub fn governs(table: &Table, report: &Report, k: usize) -> bool
     ensures test { result ≡ governing (network_of table.now) report.now k }
     ensures raises { report.now ≡ report_of (network_of table.now) → Decides result (Raises (network_of table.now) k) }

@@ -7,7 +7,8 @@ use crate::row::Row;
 use crate::valve::Valve;
 
 impl Pipe {
-    // The pipe record of a row, if the row keeps the rules.
+    // The pipe record of a row, if the row keeps the rules. There is one way to fail, so an Option says what TryFrom
+    // would need an error type for.
     pub fn from_row(row: &Row) -> Option<Pipe>
         ensures { MatchOption result (SoundFlow row.now → ⊥) (λ p. same_row p row.now) }
     {

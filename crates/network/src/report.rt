@@ -1,4 +1,5 @@
-// What is told of a network: the greatest value, and two sets of junctions as words, bit k for junction k.
+// What is told of a network: the greatest value, and two sets of junctions, bit k for junction k: words, as users are
+// told them.
 // near: the junctions in every minimum cut; far: those in at least one.
 #[derive(Clone, Copy, PartialEq, Eq, Debug)]
 pub struct Report {

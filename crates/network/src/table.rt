@@ -8,7 +8,11 @@ pub const MOST_JUNCTIONS: usize = 64;
 
 pub const MOST_PIPES: usize = 512;
 
-// A network with a flow on it. The first `count` rows are its pipes; the number of rows is fixed, so that nothing allocates.
+// The greatest limit of a pipe, in litres a minute.
+pub const MOST_LIMIT: u32 = 60_000;
+
+// A network with a flow on it. The first `count` rows are its pipes; the firmware has no heap, so the number of rows is
+// fixed.
 #[derive(Clone, Copy)]
 pub struct Table {
     pub junctions: usize,

@@ -1,11 +1,19 @@
-ghost use Rattle.std.specs.Prelude.{◌≡◌, ◌<◌, ◌≤◌, MatchOption};
+ghost use Rattle.std.specs.Prelude.{◌≡◌, ◌<◌, ◌≤◌, take, MatchOption};
 ghost use Rattle.network.specs.Pipes.{record_pipe, network_of, flow_of};
 ghost use Rattle.network.specs.Residual.{pipe, carried};
 
 use crate::pipe::Pipe;
+use crate::row::Row;
 use crate::table::Table;
 
 impl Table {
+    // The rows of the pipes, without those that are unused.
+    pub fn pipe_rows(&self) -> &[Row]
+        ensures { result.now ≡ take self.now.count self.now.rows }
+    {
+        &self.rows[..self.count]
+    }
+
     // The record of pipe k, made from its row after a check; None where there is no such pipe.
     pub fn pipe(&self, k: usize) -> Option<Pipe>
         ensures { MatchOption result (self.now.count ≤ k) (λ p. (k < self.now.count)

@@ -1,5 +1,5 @@
 -- Rounds, and what the labels say at the end.
-use Rattle.std.proofs.Common.{◌≡◌, ℕ, suc, ◌<◌, ◌≤◌, List, [], ◌∷◌, length, Some, None, Option, sym, refl, ap, ◌∙◌, subst, arith}
+use Rattle.std.proofs.Common.{◌≡◌, ℕ, suc, ◌<◌, ◌≤◌, List, [], ◌∷◌, length, Option, sym, refl, ap, ◌∙◌, subst, arith}
 use Rattle.std.specs.List.{AllByRecursion}
 use Rattle.network.specs.declared.step.Step.{Step}
 use Rattle.network.specs.Network.{Network}
@@ -10,12 +10,6 @@ use Rattle.paths.specs.BestPaths.{length_of, Chain}
 use Rattle.paths.specs.Searches.{Inv}
 use Rattle.paths.proofs.Walks.{Sound, range_path, some_length}
 use Rattle.paths.proofs.Relaxing.{range}
-
-pub some_none : (p : Step) (o : Option Step) → o ≡ Some p → o ≡ None → ⊥
-some_none p o a b = let z : ◌≡◌ {A = ℕ} 0 1 = cc in omega arith
-
-some_equal : (p q : Step) (o : Option Step) → o ≡ Some p → o ≡ Some q → p ≡ q
-some_equal p q o a b = cc
 
 module _ {Λ : Type 0} {good : Λ → Λ → Type 0} {start none : Λ} {extended : Λ → ℕ → Λ} (laws : Laws good start none extended)
     {w : Network} {f : List ℕ} (sound : Sound w f) (a : ℕ) (a_in : a < w.junctions)
@@ -40,10 +34,10 @@ module _ {Λ : Type 0} {good : Λ → Λ → Type 0} {start none : Λ} {extended
 
   chain_size : (ps qs : List Step) (x : ℕ) → Chain w a via ps x → Chain w a via qs x → length ps ≡ length qs
   chain_size [] [] x l r = refl
-  chain_size [] (q ∷ qs) x l r = absurd (some_none q (via x) r.0 l.1)
-  chain_size (p ∷ ps) [] x l r = absurd (some_none p (via x) l.0 r.1)
+  chain_size [] (q ∷ qs) x l r = absurd (cc (r.0, l.1))
+  chain_size (p ∷ ps) [] x l r = absurd (cc (l.0, r.1))
   chain_size (p ∷ ps) (q ∷ qs) x l r =
-      let e : p ≡ q = some_equal p q (via x) l.0 r.0 in
+      let e : p ≡ q = cc (l.0, r.0) in
       ap suc (chain_size ps qs (tail w p) l.1 (subst (λ (z : Step). Chain w a via qs (tail w z)) (sym e) r.1))
 
   not_again : (x k : ℕ) → ((zs : List Step) → Chain w a via zs x → length zs ≡ k) → (qs : List Step) (y : ℕ) → Chain w a via qs y → length qs < k → AllByRecursion (λ q. head w q ≡ x → ⊥) qs
@@ -60,7 +54,7 @@ module _ {Λ : Type 0} {good : Λ → Λ → Type 0} {start none : Λ} {extended
         c.1,
         c.0,
         (
-          (λ e. some_none q (via x) h.0 (ap via e ∙ inv.root)),
+          (λ e. cc (h.0, ap via e, inv.root)),
           not_again x (length (q ∷ qs)) (λ zs z. chain_size zs (q ∷ qs) x z h) qs (tail w q) h.1 (omega arith),
         ),
         chain_leads qs (tail w q) h.1,

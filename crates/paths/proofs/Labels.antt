@@ -1,5 +1,5 @@
 -- Labels in a list, and what the tests of a search tell.
-use Rattle.std.proofs.Common.{◌≡◌, ℕ, suc, ◌<◌, ◌≤◌, Bool, List, map, length, get_or, set, None, Decides, sym, refl, ap, ◌∙◌, subst, inl, inr}
+use Rattle.std.proofs.Common.{◌≡◌, ℕ, suc, ◌-◌, ◌<◌, ◌≤◌, Bool, List, map, length, get_or, set, None, Decides, sym, refl, ap, ◌∙◌, subst, inl, inr, arith}
 use lib.ListN.{length-map}
 use Rattle.std.proofs.lemmas.Bool.{cases_eq, cases_lt}
 use Rattle.std.proofs.lemmas.List.{get_or-map, map-set, get_or-set_same, get_or-set_other, get_or_past}
@@ -86,13 +86,14 @@ module _ {Λ : Type 0} {good : Λ → Λ → Type 0} {start none : Λ} {extended
       let u : Decides r (good none A) = subst (λ (y : Λ). Decides r (good y A)) ez (subst (λ (y : Λ). Decides r (good z y)) (sym ea) t) in
       ((λ e. laws.same A none (laws.none_worst A) (u.0 e)), (λ e. u.1 (subst (λ (y : Λ). good none y) (sym e) (laws.itself none))))
 
--- the same of labels: that at u, which is l, is extended to y, and compared with that at v
-pub tried : {L Λ : Type 0} (means : L → Λ) {good : Λ → Λ → Type 0} {start none : Λ} {extended : Λ → ℕ → Λ} (laws : Laws good start none extended) (ls : List (Label L)) (u v c : ℕ) (l m : Label L) (y : L) (r : Bool)
-    → u < length ls → v < length ls → l ≡ get_or ls u l
-    → InRange start none extended 62 (length_at means none ls u) → InRange start none extended 63 (length_at means none ls v) → c ≤ 60000
+-- the same of labels: that at u, which is l and has a step to go, is extended to y, and compared with that at v
+pub tried : {L Λ : Type 0} (means : L → Λ) {good : Λ → Λ → Type 0} {start none : Λ} {extended : Λ → ℕ → Λ} (laws : Laws good start none extended) (ls : List (Label L)) (u v c : ℕ) {l : Label L} (m : Label L) (y : L) (r : Bool)
+    → u < length ls → v < length ls → l ≡ get_or ls u l → l.steps < length ls - 1
+    → (suc (steps_at ls u) < length ls → InRange start none extended 62 (length_at means none ls u)) → InRange start none extended 63 (length_at means none ls v) → c ≤ 60000
     → (InRange start none extended 63 (means l.length) → c ≤ 60000 → means y ≡ extended (means l.length) c)
     → (InRange start none extended 63 (means (get_or ls v m).length) → InRange start none extended 63 (means y) → Decides r (good (means (get_or ls v m).length) (means y)))
     → (means y ≡ extended (length_at means none ls u) c) × Decides r (good (length_at means none ls v) (extended (length_at means none ls u) c))
-tried means {good} {start} {none} {extended} laws ls u v c l m y r hu hv e =
+tried means {none} laws ls u v c {l} m y r hu hv e short known =
     tested laws (length_at means none ls u) (length_at means none ls v) (means l.length) (means (get_or ls v m).length) (means y) c r
     (at_read (λ l. means l.length) none ls u l hu e) (at_getD (λ l. means l.length) none ls v m hv)
+    (known (omega (arith, at_read (λ l. l.steps) 0 ls u l hu e)))

@@ -2,7 +2,6 @@ pub mod Ends
 pub mod FewRange
 pub mod Labels
 pub mod Parts
-pub mod Pigeonhole
 pub mod Relaxing
 pub mod Rounds
 pub mod Steps

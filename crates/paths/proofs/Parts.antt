@@ -9,7 +9,6 @@ use Rattle.network.specs.Network.{Network}
 use Rattle.network.specs.Residual.{tail}
 use Rattle.paths.specs.declared.label.Label.{Label}
 use Rattle.paths.specs.BestPaths.{via_at, Chain, Answer}
-use Rattle.paths.proofs.Ends.{some_none}
 
 module _ {L : Type 0} (xs ys : List (Label L)) where
   via_part : (b : ℕ) → b < length xs → via_at (xs ++ ys) b ≡ via_at xs b
@@ -20,7 +19,7 @@ module _ {L : Type 0} (xs ys : List (Label L)) where
   via_inside : (b : ℕ) (s : Step) → via_at xs b ≡ Some s → b < length xs
   via_inside b s e = elim (cases_lt b (length xs)) [
     | inl h ↦ h
-    | inr h ↦ absurd (some_none s (via_at xs b) e (get_or_past (map (λ (l : Label L). l.via) xs) b None (simp length-map h)))
+    | inr h ↦ absurd (cc (e, get_or_past (map (λ (l : Label L). l.via) xs) b None (simp length-map h)))
   ]
 
   chain_part : (w : Network) (a : ℕ) → a < length xs → (ss : List Step) (b : ℕ) → Chain w a (via_at xs) ss b → Chain w a (via_at (xs ++ ys)) ss b

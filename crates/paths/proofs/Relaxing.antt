@@ -11,9 +11,6 @@ use Rattle.paths.specs.BestPaths.{length_of, Chain}
 use Rattle.paths.specs.Searches.{Over, Witness, Rooted, Inv}
 use Rattle.paths.proofs.Walks.{Sound, missing, range_length, range_path}
 
-some_same : (p q : Step) (o : Option Step) → o ≡ Some p → o ≡ Some q → p ≡ q
-some_same p q o a b = cc
-
 module _ {Λ : Type 0} {good : Λ → Λ → Type 0} {start none : Λ} {extended : Λ → ℕ → Λ} (laws : Laws good start none extended)
     {w : Network} {f : List ℕ} (sound : Sound w f) (a : ℕ) (a_in : a < w.junctions)
     {at : ℕ → Λ} {count : ℕ → ℕ} {via : ℕ → Option Step} (inv : Inv w f a good start none extended at count via) where
@@ -156,7 +153,7 @@ module _ {Λ : Type 0} {good : Λ → Λ → Type 0} {start none : Λ} {extended
 
       came' : (x : ℕ) (q : Step) → via' x ≡ Some q → (head w q ≡ x) × Residual w f q × good (extended (at' (tail w q)) (weight w f q)) (at' x)
       came' x q h = elim (cases_eq x (head w p)) [
-        | inl e ↦ subst (λ (z : ℕ). (head w q ≡ z) × Residual w f q × good (extended (at' (tail w q)) (weight w f q)) (at' z)) (sym e) (came_new q (some_same p q (via' (head w p)) via-new (sym (ap via' e) ∙ h)))
+        | inl e ↦ subst (λ (z : ℕ). (head w q ≡ z) × Residual w f q × good (extended (at' (tail w q)) (weight w f q)) (at' z)) (sym e) (came_new q (cc (via-new, ap via' e, h)))
         | inr k ↦ (let c = inv.came x q (sym (via-old x k) ∙ h) in (
           c.0,
           c.1,

@@ -1,10 +1,11 @@
 -- The path of fewest pipes: fewer is better, then the greater smallest weight.
-use Rattle.std.specs.Prelude.{◌≡◌, ℕ, zero, suc, ◌<◌, cond, ◌⊎◌, ◌==◌, ◌≢◌, refl}
+use Rattle.std.specs.Prelude.{◌≡◌, ℕ, zero, suc, ◌<◌, ◌⊎◌, ◌≢◌, refl}
 use Rattle.std.proofs.Common.{sym, ap, ap₂, ◌∙◌, inl, inr, arith}
 use Rattle.std.proofs.lemmas.Bool.{cases_eq, cases_order}
 use Rattle.paths.specs.Metrics.{Laws}
 use Rattle.paths.specs.declared.fewest.Fewest.{Fewest}
-use Rattle.paths.specs.Widths.{Width, unbounded, Wider, narrowed, width_of, wider_trans, wider_total, wider_same, wider_keeps, width_laws}
+use Rattle.paths.specs.declared.fewest.Fewest.TheVariants.{NoWay, Path}
+use Rattle.paths.specs.Widths.{Width, unbounded, Wider, narrowed, width_means, wider_trans, wider_total, wider_same, wider_keeps, width_laws}
 
 pub data Few : Type 0 where
   no_few : Few
@@ -22,12 +23,9 @@ lengthened no_few w = no_few
 lengthened (few p a) zero = no_few
 lengthened (few p a) (suc w) = few (suc p) (narrowed a (suc w))
 
--- 2 ^ 32 - 1 pipes stand for no way
-abbrev pub few_of : ℕ → ℕ → Few
-few_of p n = cond (p == 4294967295) no_few (few p (width_of n))
-
 abbrev pub few_means : Fewest → Few
-few_means x = few_of x.pipes x.least
+few_means NoWay = no_few
+few_means (Path p l) = few p.0 (width_means l)
 
 fewer_itself : (a : Few) → Fewer a a
 fewer_itself no_few = tt
@@ -73,7 +71,7 @@ last_fewest no_few = tt
 last_fewest (few p a) = tt
 
 few_apart : (p : ℕ) (a : Width) → few p a ≢ no_few
-few_apart p a e = let z : ◌≡◌ {A = ℕ} 0 1 = cc in omega arith
+few_apart p a e = cc
 
 fewer_not_better : (a : Few) (w : ℕ) → Fewer a (lengthened a w)
 fewer_not_better no_few w = tt

@@ -41,6 +41,11 @@ pub record Inv {Λ : Type 0} (w : Network) (f : List ℕ) (a : ℕ) (good : Λ �
 abbrev pub Kept : {L Λ : Type 0} → Network → List ℕ → ℕ → (L → Λ) → (Λ → Λ → Type 0) → Λ → Λ → (Λ → ℕ → Λ) → List (Label L) → Type 0
 Kept w f a means good start none extended ls = Inv w f a good start none extended (length_at means none ls) (steps_at ls) (via_at ls)
 
+-- a label for each junction, and kept
+pub record Labelled {L Λ : Type 0} (w : Network) (f : List ℕ) (a : ℕ) (means : L → Λ) (good : Λ → Λ → Type 0) (start none : Λ) (extended : Λ → ℕ → Λ) (ls : List (Label L)) : Type 0 where
+  pub wide : length ls ≡ w.junctions
+  pub kept : Kept w f a means good start none extended ls
+
 -- the label at the step's end, in ls', is at least as good as the extension of the label at its start, in ls
 abbrev pub Relaxed : {L Λ : Type 0} → Network → List ℕ → (L → Λ) → (Λ → Λ → Type 0) → Λ → (Λ → ℕ → Λ) → List (Label L) → List (Label L) → Step → Type 0
 Relaxed w f means good none extended ls ls' s = good (length_at means none ls' (head w s)) (extended (length_at means none ls (tail w s)) (weight w f s))

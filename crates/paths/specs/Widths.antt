@@ -1,9 +1,10 @@
 -- The widest path: a length is the smallest weight on the path, and the greater is the better.
-use Rattle.std.specs.Prelude.{◌≡◌, ℕ, ◌≤◌, min, cond, ◌⊎◌, ◌==◌, refl}
+use Rattle.std.specs.Prelude.{◌≡◌, ℕ, ◌≤◌, min, ◌⊎◌, refl}
 use Rattle.std.proofs.Common.{ap, inl, inr, arith}
 use Rattle.std.proofs.lemmas.Bool.{cases_eq, cases_lt}
 use Rattle.paths.specs.Metrics.{Laws}
 use Rattle.paths.specs.declared.widest.Widest.{Widest}
+use Rattle.paths.specs.declared.widest.Widest.TheVariants.{Litres, Unbounded}
 
 pub data Width : Type 0 where
   unbounded : Width
@@ -19,12 +20,9 @@ abbrev pub narrowed : Width → ℕ → Width
 narrowed unbounded w = width w
 narrowed (width a) w = width (min a w)
 
--- 2 ^ 32 - 1 stands for no bound
-abbrev pub width_of : ℕ → Width
-width_of n = cond (n == 4294967295) unbounded (width n)
-
 abbrev pub width_means : Widest → Width
-width_means x = width_of x.least
+width_means (Litres n) = width n
+width_means Unbounded = unbounded
 
 wider_itself : (a : Width) → Wider a a
 wider_itself unbounded = tt
@@ -62,21 +60,18 @@ wider_keeps (width a) unbounded w p = absurd p
 wider_keeps (width a) (width b) w p = omega arith
 
 width_apart : unbounded ≡ width 0 → ⊥
-width_apart e = let z : ◌≡◌ {A = ℕ} 0 1 = cc in omega arith
-
-width_inj : (a b : ℕ) → width a ≡ width b → a ≡ b
-width_inj a b e = cc
+width_apart e = cc
 
 narrowed_none : (a : Width) (w : ℕ) → narrowed a w ≡ width 0 → (a ≡ width 0) ⊎ (w ≡ 0)
-narrowed_none unbounded w e = inr (width_inj w 0 e)
+narrowed_none unbounded w e = inr (cc)
 narrowed_none (width a) w e =
-    let k : min a w ≡ 0 = width_inj (min a w) 0 e in
+    let k : min a w ≡ 0 = cc in
     elim (cases_eq a 0) [ inl z ↦ inl (ap width z) | inr z ↦ inr (omega arith) ]
 
 none_narrowed : (a : Width) (w : ℕ) → (a ≡ width 0) ⊎ (w ≡ 0) → narrowed a w ≡ width 0
 none_narrowed unbounded w (inl e) = absurd (width_apart e)
 none_narrowed unbounded w (inr e) = ap width e
-none_narrowed (width a) w (inl e) = let k : a ≡ 0 = width_inj a 0 e in ap width (omega arith)
+none_narrowed (width a) w (inl e) = let k : a ≡ 0 = cc in ap width (omega arith)
 none_narrowed (width a) w (inr e) = ap width (omega arith)
 
 pub width_laws : Laws Wider unbounded (width 0) narrowed

@@ -2,13 +2,15 @@ ghost use Rattle.paths.specs.Widths.{unbounded};
 ghost use Rattle.paths.specs.Fews.{Few, no_few, few, Fewer, lengthened, few_means, few_laws};
 
 use crate::metric::PathMetric;
+use crate::widest::Widest;
+use std::cmp::Reverse;
 
 // The number of pipes and the smallest weight: fewer pipes are better, then the greater weight.
-// u32::MAX pipes stand for no way, and a weight of u32::MAX for the path with no pipe.
-#[derive(Clone, Copy)]
-pub struct Fewest {
-    pub pipes: u32,
-    pub least: u32,
+// No way is the worst. An Option of the two would be ordered alike, but it is no type of this crate, and a metric is one.
+#[derive(Clone, Copy, PartialEq, Eq, PartialOrd, Ord, Debug)]
+pub enum Fewest {
+    NoWay,
+    Path { pipes: Reverse<u32>, least: Widest },
 }
 
 impl PathMetric for Fewest {
@@ -27,35 +29,27 @@ impl PathMetric for Fewest {
     ghost laws = { few_laws };
 
     fn no_pipe() -> Fewest {
-        Fewest {
-            pipes: 0,
-            least: u32::MAX,
+        Fewest::Path {
+            pipes: Reverse(0),
+            least: Widest::Unbounded,
         }
     }
 
     fn no_way() -> Fewest {
-        Fewest {
-            pipes: u32::MAX,
-            least: 0,
-        }
+        Fewest::NoWay
     }
 
     fn at_least(&self, other: &Fewest) -> bool {
-        other.pipes == u32::MAX
-            || self.pipes < other.pipes
-            || (self.pipes == other.pipes && self.least >= other.least)
+        self >= other
     }
 
     fn extend(&self, weight: u32) -> Fewest {
-        if weight == 0 || self.pipes >= u32::MAX - 1 {
-            return Fewest {
-                pipes: u32::MAX,
-                least: 0,
-            };
-        }
-        Fewest {
-            pipes: self.pipes + 1,
-            least: self.least.min(weight),
+        match *self {
+            Fewest::Path { pipes, least } if weight > 0 && pipes.0 < u32::MAX => Fewest::Path {
+                pipes: Reverse(pipes.0 + 1),
+                least: least.min(Widest::Litres(weight)),
+            },
+            _ => Fewest::NoWay,
         }
     }
 }

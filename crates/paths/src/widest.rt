@@ -2,10 +2,12 @@ ghost use Rattle.paths.specs.Widths.{Width, unbounded, width, Wider, narrowed, w
 
 use crate::metric::PathMetric;
 
-// The smallest weight on the path, the greater the better. u32::MAX stands for the path with no pipe, 0 for no way.
-#[derive(Clone, Copy)]
-pub struct Widest {
-    pub least: u32,
+// The smallest weight on the path, the greater the better. Only the path with no pipe is unbounded, and it is the best:
+// an Option of a number would put None below all numbers.
+#[derive(Clone, Copy, PartialEq, Eq, PartialOrd, Ord, Debug)]
+pub enum Widest {
+    Litres(u32),
+    Unbounded,
 }
 
 impl PathMetric for Widest {
@@ -24,20 +26,18 @@ impl PathMetric for Widest {
     ghost laws = { width_laws };
 
     fn no_pipe() -> Widest {
-        Widest { least: u32::MAX }
+        Widest::Unbounded
     }
 
     fn no_way() -> Widest {
-        Widest { least: 0 }
+        Widest::Litres(0)
     }
 
     fn at_least(&self, other: &Widest) -> bool {
-        self.least >= other.least
+        self >= other
     }
 
     fn extend(&self, weight: u32) -> Widest {
-        Widest {
-            least: self.least.min(weight),
-        }
+        (*self).min(Widest::Litres(weight))
     }
 }

@@ -1,74 +1,115 @@
+ghost use Rattle.std.specs.Prelude.{◌≡◌, ◌<◌, ◌≤◌, ◌^◌, ◌==◌, Bool, false, not, cond, bit_and, bit_or};
+ghost use Rattle.network.specs.Valves.{room};
+
 use crate::plan::{Link, Plan};
 use network::report::Report;
+use network::step::Direction;
+use network::valve::Valve;
+
+// Sets, rooms, governing pipes and what reaches what are told here a second time too, to try those of the other crates.
 
 // The word with one junction.
-fn only(junction: usize) -> u64 {
+fn only(junction: usize) -> u64
+    ensures inside { junction < 64 → result ≡ 2 ^ junction }
+    ensures beyond { 64 ≤ junction → result ≡ 0 }
+{
     if junction < 64 { 1u64 << junction } else { 0 }
 }
 
-// Whether each flow is within its limit, and each junction's outflow less its inflow is due:
-// the value at the pump, its opposite at the outlet, and 0 elsewhere.
-pub fn conserves(plan: &Plan, flows: &[u32], value: u32) -> bool {
-    let mut nets = [0i64; 64];
-    for k in 0..plan.links.len().min(flows.len()) {
-        let link = plan.links[k];
-        let room = if link.open { link.limit } else { 0 };
-        if flows[k] > room || link.from >= 64 || link.to >= 64 {
+// Whether the set has a junction.
+fn has(set: u64, junction: usize) -> bool
+    ensures inside { junction < 64 → result ≡ not (bit_and set (2 ^ junction) == 0) }
+    ensures beyond { 64 ≤ junction → result ≡ false }
+{
+    set & only(junction) != 0
+}
+
+// The set with what a step adds: its end, where the set has its start. Both are words with one junction.
+fn widened(set: u64, start: u64, end: u64) -> u64
+    ensures { result ≡ cond (bit_and set start == 0) set (bit_or set end) }
+{
+    if set & start == 0 { set } else { set | end }
+}
+
+impl Link {
+    // The greatest flow that the pipe lets through.
+    fn room(&self) -> u32
+        ensures { result ≡ room self.now.valve self.now.limit }
+    {
+        match self.valve {
+            Valve::Open => self.limit,
+            Valve::Closed => 0,
+        }
+    }
+
+    // The set with what the residual steps of the pipe add, taken along their way or against it.
+    fn spread(&self, flow: u32, set: u64, direction: Direction) -> u64 {
+        let (from, to) = (only(self.from), only(self.to));
+        let (start, end) = match direction {
+            Direction::Along => (from, to),
+            Direction::Against => (to, from),
+        };
+        let open = self.valve == Valve::Open;
+        let set = if open && flow < self.limit {
+            widened(set, start, end)
+        } else {
+            set
+        };
+        if open && flow > 0 {
+            widened(set, end, start)
+        } else {
+            set
+        }
+    }
+
+    // Whether the pipe is open, from the near side, to outside the far side.
+    pub fn governs(&self, report: &Report) -> bool {
+        self.valve == Valve::Open && has(report.near, self.from) && !has(report.far, self.to)
+    }
+}
+
+impl Plan {
+    // Whether each flow is within its limit, and each junction's outflow less its inflow is due:
+    // the value at the pump, its opposite at the outlet, and 0 elsewhere.
+    pub fn conserves(&self, flows: &[u32], value: u32) -> bool {
+        if self.pump >= 64 || self.outlet >= 64 || self.links.len() != flows.len() {
             return false;
         }
-        let flow = i64::from(flows[k]);
-        nets[link.from] = nets[link.from].wrapping_add(flow);
-        nets[link.to] = nets[link.to].wrapping_sub(flow);
+        // What flows out of each junction less what flows in, by the junction's number.
+        let mut nets = [0i64; 64];
+        for (link, flow) in self.links.iter().zip(flows) {
+            if *flow > link.room() || link.from >= 64 || link.to >= 64 {
+                return false;
+            }
+            let flow = i64::from(*flow);
+            nets[link.from] = nets[link.from].wrapping_add(flow);
+            nets[link.to] = nets[link.to].wrapping_sub(flow);
+        }
+        let value = i64::from(value);
+        nets[self.pump] = nets[self.pump].wrapping_sub(value);
+        nets[self.outlet] = nets[self.outlet].wrapping_add(value);
+        nets == [0i64; 64]
     }
-    if plan.pump >= 64 || plan.outlet >= 64 || plan.links.len() != flows.len() {
-        return false;
-    }
-    let value = i64::from(value);
-    nets[plan.pump] = nets[plan.pump].wrapping_sub(value);
-    nets[plan.outlet] = nets[plan.outlet].wrapping_add(value);
-    nets == [0i64; 64]
-}
 
-// The set with what one pipe adds: its end, where the set has its start and there is room, and its start likewise.
-fn widened(set: u64, start: u64, end: u64, room: bool, flowing: bool) -> u64 {
-    if room && set & start != 0 {
-        set | end
-    } else if flowing && set & end != 0 {
-        set | start
-    } else {
+    // The junctions that residual steps lead to from a junction or, against their way, those from which they lead to it.
+    fn reach(&self, flows: &[u32], junction: usize, direction: Direction) -> u64 {
+        let mut set = only(junction);
+        // A round adds the ends of all steps from the set, and 64 junctions are there after 63 rounds at the latest:
+        // so many rounds end without a measure of what is missing.
+        for _ in 0..64usize {
+            for (link, flow) in self.links.iter().zip(flows) {
+                set = link.spread(*flow, set, direction);
+            }
+        }
         set
     }
-}
 
-// The junctions that residual steps lead to from a junction, or from which they lead to it where `back` is set.
-fn reach_from(links: &[Link], flows: &[u32], junction: usize, back: bool) -> u64 {
-    let mut set = only(junction);
-    for _ in 0..64usize {
-        for k in 0..links.len().min(flows.len()) {
-            let link = links[k];
-            let room = link.open && flows[k] < link.limit;
-            let flowing = link.open && flows[k] > 0;
-            let start = only(if back { link.to } else { link.from });
-            let end = only(if back { link.from } else { link.to });
-            set = widened(set, start, end, room, flowing);
-        }
+    // Whether the near side is what the pump reaches, which the outlet is not, and the far side what does not reach the
+    // outlet.
+    pub fn shows(&self, flows: &[u32], report: &Report) -> bool {
+        let near = self.reach(flows, self.pump, Direction::Along);
+        let reaching = self.reach(flows, self.outlet, Direction::Against);
+        let all = only(self.junctions).wrapping_sub(1);
+        near == report.near && !has(near, self.outlet) && all & !reaching == report.far
     }
-    set
-}
-
-// Whether the near side is what the pump reaches, which the outlet is not, and the far side what does not reach the outlet.
-pub fn shows(plan: &Plan, flows: &[u32], report: &Report) -> bool {
-    let near = reach_from(&plan.links, flows, plan.pump, false);
-    let reaching = reach_from(&plan.links, flows, plan.outlet, true);
-    let all = only(plan.junctions).wrapping_sub(1);
-    near == report.near && near & only(plan.outlet) == 0 && all & !reaching == report.far
-}
-
-// Whether a pipe is open, from the near side, to outside the far side.
-pub fn governs(plan: &Plan, report: &Report, pipe: usize) -> bool {
-    if pipe >= plan.links.len() {
-        return false;
-    }
-    let link = plan.links[pipe];
-    link.open && report.near & only(link.from) != 0 && report.far & only(link.to) == 0
 }

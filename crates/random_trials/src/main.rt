@@ -13,18 +13,17 @@ mod trial;
 use engines::cold::ColdEngine;
 use engines::warm::WarmEngine;
 use interface::engine::Engine;
-use network::report::Report;
-use network::table::{MOST_JUNCTIONS, MOST_PIPES};
+use network::table::MOST_JUNCTIONS;
 use paths::fewest::Fewest;
 use paths::label::Label;
 use paths::metric::PathMetric;
 use paths::widest::Widest;
-use plan::LINE_BYTES;
 use random::Random;
 use std::alloc::{AllocError, Global};
+use std::collections::BTreeMap;
 use std::io;
-use tally::{NUMBERS, Tally};
-use trial::{Room, try_calls};
+use tally::{Log, Tally};
+use trial::{MORE, Trial};
 
 const SEED: u64 = 20_260_417;
 
@@ -32,113 +31,87 @@ const NETWORKS: usize = 400;
 
 const CALLS: usize = 24;
 
-// Workspace, space and row are so much longer than any engine asks for.
-const MORE: usize = 8;
-
-// The sums of the counts that the two engines of a metric answered.
-#[derive(Clone, Copy)]
-struct Counts {
-    warm: u64,
-    cold: u64,
-}
-
-impl Counts {
-    fn add(&mut self, more: Counts) {
-        self.warm = self.warm.wrapping_add(more.warm);
-        self.cold = self.cold.wrapping_add(more.cold);
-    }
-}
-
-fn new_work<M: PathMetric>(heap: Global) -> Result<Vec<Label<M>>, AllocError> {
-    let mut work = Vec::new(heap);
-    for _ in 0..MOST_JUNCTIONS + MORE {
-        work.push(Label {
-            length: M::no_way(),
-            steps: 0,
-            via: None,
-        })?;
-    }
-    Ok(work)
-}
-
-fn new_room(heap: Global) -> Result<Room, AllocError> {
-    let space = vec![in heap; 0u8; (1 + MOST_PIPES) * LINE_BYTES + MORE]?;
-    let row = vec![in heap; 0u32; MOST_PIPES + MORE]?;
-    let letters = Vec::new(heap);
-    Ok(Room {
-        space,
-        row,
-        letters,
-    })
-}
-
 // The warm and the cold engine of a metric, which must agree with each other and with the reports that are there.
-fn try_metric<M: PathMetric>(
-    heap: Global,
-    seed: Random,
-    work: &mut [Label<M>],
-    room: &mut Room,
-    reports: &mut Vec<Report>,
-    tally: &mut Tally,
-) -> Result<Counts, AllocError> {
-    let warm = try_calls::<WarmEngine<M>>(heap, seed, CALLS, work, room, reports, tally)?;
-    let cold = try_calls::<ColdEngine<M>>(heap, seed, CALLS, work, room, reports, tally)?;
-    Ok(Counts { warm, cold })
+#[derive(Drop)]
+struct Pair<M: PathMetric> {
+    warm: Trial<WarmEngine<M>>,
+    cold: Trial<ColdEngine<M>>,
 }
 
-// All networks, on the four engines. The counts by fewest pipes, and by widest paths.
-fn try_networks(heap: Global, tally: &mut Tally) -> Result<(Counts, Counts), AllocError> {
-    let mut few = new_work::<Fewest>(heap)?;
-    let mut wide = new_work::<Widest>(heap)?;
-    let mut room = new_room(heap)?;
+impl<M: PathMetric> Pair<M> {
+    fn new(heap: Global) -> Result<Pair<M>, AllocError> {
+        let warm = vec![in heap; Label::<M>::unreached(); MOST_JUNCTIONS + MORE]?;
+        let cold = vec![in heap; Label::<M>::unreached(); MOST_JUNCTIONS + MORE]?;
+        Ok(Pair {
+            warm: Trial::new(heap, warm)?,
+            cold: Trial::new(heap, cold)?,
+        })
+    }
+
+    fn run(&mut self, heap: Global, seed: Random, log: &mut Log) -> Result<(), AllocError> {
+        self.warm.run(heap, seed, CALLS, log)?;
+        self.cold.run(heap, seed, CALLS, log)
+    }
+
+    fn tally(&self) -> Tally {
+        let mut sum = self.warm.tally();
+        sum += self.cold.tally();
+        sum
+    }
+
+    fn show_augmentations(&self, rt: &HostRuntime, paths: &str) -> io::Result<()> {
+        let warm = self.warm.tally().augmentations;
+        let cold = self.cold.tally().augmentations;
+        println!(rt; "augmentations by {paths}: {warm} warm, {cold} cold")
+    }
+}
+
+// All networks, on the four engines.
+fn run_all(
+    heap: Global,
+    fewest: &mut Pair<Fewest>,
+    widest: &mut Pair<Widest>,
+    log: &mut Log,
+) -> Result<(), AllocError> {
     let mut random = Random { state: SEED };
-    let mut fewest = Counts { warm: 0, cold: 0 };
-    let mut widest = Counts { warm: 0, cold: 0 };
     for _ in 0..NETWORKS {
         let state = random.draw();
         let seed = Random { state };
-        let mut reports = Vec::new(heap);
-        fewest.add(try_metric(heap, seed, &mut few, &mut room, &mut reports, tally)?);
-        widest.add(try_metric(heap, seed, &mut wide, &mut room, &mut reports, tally)?);
-    }
-    Ok((fewest, widest))
-}
-
-fn show_refused(rt: &HostRuntime, refused: &[u32]) -> io::Result<()> {
-    for (number, times) in refused.iter().enumerate() {
-        if *times > 0 {
-            println!(rt; "{times} refused by {number}")?;
-        }
+        log.reports.clear();
+        fewest.run(heap, seed, log)?;
+        widest.run(heap, seed, log)?;
     }
     Ok(())
 }
 
-fn show_counts(rt: &HostRuntime, fewest: &Counts, widest: &Counts) -> io::Result<()> {
-    let (warm, cold) = (fewest.warm, fewest.cold);
-    println!(rt; "augmentations by fewest pipes: {warm} warm, {cold} cold")?;
-    let (warm, cold) = (widest.warm, widest.cold);
-    println!(rt; "augmentations by widest paths: {warm} warm, {cold} cold")
-}
-
-fn show_tally(rt: &HostRuntime, tally: &Tally) -> io::Result<()> {
-    let accepted = tally.accepted;
+fn show_log(rt: &HostRuntime, log: &Log) -> io::Result<()> {
+    let accepted = log.accepted;
     println!(rt; "{NETWORKS} networks, {CALLS} calls on each\n{accepted} carried out")?;
-    show_refused(rt, &tally.refused)?;
-    let checks = tally.checks;
-    let failures = tally.failures;
-    println!(rt; "{checks} checks, {failures} failures")
+    for (number, times) in log.refused.iter() {
+        println!(rt; "{times} refused by {number}")?;
+    }
+    Ok(())
 }
 
 fn main(rt: HostRuntime) -> io::Result<()> {
     let heap = rt.alloc();
-    let refused = vec![in heap; 0u32; NUMBERS]?;
-    let mut tally = Tally {
-        checks: 0,
-        failures: 0,
+    let mut fewest = Pair::<Fewest>::new(heap)?;
+    let mut widest = Pair::<Widest>::new(heap)?;
+    let mut log = Log {
         accepted: 0,
-        refused,
+        refused: BTreeMap::new(heap),
+        reports: Vec::new(heap),
     };
-    let (fewest, widest) = try_networks(heap, &mut tally)?;
-    show_tally(&rt, &tally)?;
-    show_counts(&rt, &fewest, &widest)
+    run_all(heap, &mut fewest, &mut widest, &mut log)?;
+    show_log(&rt, &log)?;
+    let mut tally = fewest.tally();
+    tally += widest.tally();
+    let Tally {
+        checks,
+        failures,
+        ..
+    } = tally;
+    println!(rt; "{checks} checks, {failures} failures")?;
+    fewest.show_augmentations(&rt, "fewest pipes")?;
+    widest.show_augmentations(&rt, "widest paths")
 }

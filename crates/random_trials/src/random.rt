@@ -15,7 +15,7 @@ impl Random {
         third.wrapping_mul(0x2545_F491_4F6C_DD1D)
     }
 
-    // A number below n, or 0 where there is none.
+    // A number below n, or 0 where there is none: a draw always gives a number, so that those after it stay the same.
     pub fn below(&mut self, n: usize) -> usize
         ensures below { 0 < n → result < n }
         ensures bound { result ≤ n }

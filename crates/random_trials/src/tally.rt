@@ -1,31 +1,74 @@
+ghost use Rattle.std.specs.Prelude.{◌≡◌, ◌+◌, ◌%◌, ◌^◌, cond, is_ok, OnOk};
+
 use formats::refusal::Refusal;
+use network::report::Report;
+use std::alloc::AllocError;
+use std::collections::BTreeMap;
+use std::ops::AddAssign;
 
-// The greatest number of a refusal, and one more.
-pub const NUMBERS: usize = 13;
-
-// How many checks were made and how many failed; how many calls were carried out, and refused by each number.
-#[derive(Drop)]
+// How many checks were made and how many failed, and how many augmentations an engine counted.
+#[derive(Clone, Copy, Default)]
 pub struct Tally {
     pub checks: u64,
     pub failures: u64,
-    pub accepted: u32,
-    pub refused: Vec<u32>,
+    pub augmentations: u64,
 }
 
 impl Tally {
-    pub fn expect(&mut self, right: bool) {
+    pub fn expect(&mut self, right: bool)
+        ensures checks { self.new.checks ≡ (self.old.checks + 1) % 2 ^ 64 }
+        ensures failures { self.new.failures ≡ cond right self.old.failures ((self.old.failures + 1) % 2 ^ 64) }
+        ensures augmentations { self.new.augmentations ≡ self.old.augmentations }
+    {
         self.checks = self.checks.wrapping_add(1);
-        self.failures = self.failures.wrapping_add(u64::from(!right));
+        if !right {
+            self.failures = self.failures.wrapping_add(1);
+        }
     }
 
-    pub fn note(&mut self, due: Option<Refusal>) {
-        let Some(refusal) = due else {
-            self.accepted = self.accepted.wrapping_add(1);
-            return;
-        };
-        let number = refusal.number() as usize;
-        if number < self.refused.len() {
-            self.refused[number] = self.refused[number].wrapping_add(1);
+    pub fn count(&mut self, augmentations: u32)
+        ensures checks { self.new.checks ≡ self.old.checks }
+        ensures failures { self.new.failures ≡ self.old.failures }
+        ensures augmentations { self.new.augmentations ≡ (self.old.augmentations + augmentations) % 2 ^ 64 }
+    {
+        self.augmentations = self.augmentations.wrapping_add(u64::from(augmentations));
+    }
+}
+
+impl AddAssign for Tally {
+    fn add_assign(&mut self, more: Tally) {
+        self.checks = self.checks.wrapping_add(more.checks);
+        self.failures = self.failures.wrapping_add(more.failures);
+        self.augmentations = self.augmentations.wrapping_add(more.augmentations);
+    }
+}
+
+// How the calls on the networks went by the plan, and what the first engine reported after each call on the network at hand.
+#[derive(Drop)]
+pub struct Log {
+    pub accepted: u32,
+    // How many calls were refused by each number, as it is printed.
+    pub refused: BTreeMap<u32, u32>,
+    pub reports: Vec<Option<Report>>,
+}
+
+impl Log {
+    // One more call, and the report after it.
+    pub fn note(
+        &mut self,
+        due: Result<(), Refusal>,
+        report: Option<Report>,
+    ) -> Result<(), AllocError>
+        ensures { OnOk result (self.new.accepted ≡ cond (is_ok due) ((self.old.accepted + 1) % 2 ^ 32) self.old.accepted) }
+    {
+        match due {
+            Ok(()) => self.accepted = self.accepted.wrapping_add(1),
+            Err(refusal) => {
+                let times = self.refused.entry(refusal.number())?.or_insert(0);
+                *times = times.wrapping_add(1);
+            }
         }
+        self.reports.push(report)?;
+        Ok(())
     }
 }

@@ -1,341 +1,302 @@
-use crate::draws::{draw_places, draw_request};
-use crate::flows::{conserves, governs, shows};
-use crate::plan::Plan;
+ghost use Rattle.std.specs.Prelude.{◌≡◌, ◌≤◌, ◌==◌, ◌&&◌, ◌-ℤ◌, pos, drop, length, nat_le, vec_len, Decides};
+ghost use Rattle.std.specs.List.{list_all};
+
+use crate::plan::{LINE_BYTES, Plan};
 use crate::random::Random;
-use crate::request::Request;
-use crate::rules::{apply, due};
-use crate::shapes::{draw_plan, draw_shape};
-use crate::tally::Tally;
+use crate::request::{Damage, Request};
+use crate::tally::{Log, Tally};
 use formats::refusal::Refusal;
 use interface::engine::{Engine, FlowEngine};
 use network::report::Report;
+use network::table::MOST_PIPES;
 use std::alloc::{AllocError, Global};
+
+// Workspace, space and row are so much longer than any engine asks for.
+pub const MORE: usize = 8;
 
 // What spaces and rows hold before a call.
 const MARK: u8 = 0x5a;
 
 const NUMBER_MARK: u32 = 0x5a5a_5a5a;
 
-fn same(first: &[u8], second: &[u8]) -> bool {
-    first == second
+// What a call answers that is carried out: the change and the count, or nothing where it is none that changes a network.
+type Answer = Option<(i64, u32)>;
+
+// Whether all items are the mark.
+fn marked<T: PartialEq>(items: &[T], mark: &T) -> bool
+    ensures { result ≡ list_all (λ x. T.eq x mark.now) items.now }
+{
+    items.iter().all(|item| item == mark)
 }
 
-// Whether a marked space has this at its front, and its marks behind it.
-fn holds_only(space: &[u8], front: &[u8]) -> bool {
-    if space.len() < front.len() {
-        return false;
-    }
-    for k in front.len()..space.len() {
-        if space[k] != MARK {
-            return false;
-        }
-    }
-    same(&space[0..front.len()], front)
-}
-
-// Whether a marked row has its marks from there on.
-fn marked(row: &[u32], from: usize) -> bool {
-    for k in from..row.len() {
-        if row[k] != NUMBER_MARK {
-            return false;
-        }
-    }
-    true
-}
-
-// What a call answers that changes nothing.
-const NO_CHANGE: (i64, u32) = (0, 0);
-
-// Writes the sheet into the space, which must then hold it and its marks, or its marks alone.
-fn write_sheet<E: FlowEngine>(
-    engine: &E,
-    sheet: &[u8],
-    space: &mut [u8],
-    tally: &mut Tally,
-) -> Result<(i64, u32), Refusal> {
-    space.fill(MARK);
-    match engine.write_sheet(space) {
-        Ok(length) => {
-            tally.expect(length == sheet.len() && holds_only(space, sheet));
-            Ok(NO_CHANGE)
-        }
-        Err(refusal) => {
-            tally.expect(holds_only(space, b""));
-            Err(refusal)
-        }
+// Whether a call on marked items has its answer at their front, so many as are due, and left the others alone, or all,
+// refused.
+fn leaves_marks<T: PartialEq>(
+    answer: &Result<usize, Refusal>,
+    due: usize,
+    items: &[T],
+    mark: &T,
+) -> bool
+    ensures { result ≡ elim answer.now [
+      | Ok n ↦ n == due && nat_le due (length items.now) && list_all (λ x. T.eq x mark.now) (drop due items.now)
+      | Err _ ↦ list_all (λ x. T.eq x mark.now) items.now
+    ] }
+{
+    match answer {
+        Ok(count) => *count == due && due <= items.len() && marked(&items[due..], mark),
+        Err(_) => marked(items, mark),
     }
 }
 
-// Reads the flow into the row, which must keep its marks behind it, or everywhere.
-fn read_flow<E: FlowEngine>(
-    engine: &E,
-    pipes: usize,
-    row: &mut [u32],
-    tally: &mut Tally,
-) -> Result<(i64, u32), Refusal> {
-    row.fill(NUMBER_MARK);
-    match engine.read_flow(row) {
-        Ok(count) => {
-            tally.expect(count == pipes && marked(row, pipes));
-            Ok(NO_CHANGE)
-        }
-        Err(refusal) => {
-            tally.expect(marked(row, 0));
-            Err(refusal)
-        }
-    }
-}
-
-fn ask_report<E: FlowEngine>(
-    engine: &E,
-    due: &Report,
-    work: &mut [E::Place],
-    tally: &mut Tally,
-) -> Result<(i64, u32), Refusal> {
-    match engine.report(work) {
-        Ok(report) => {
-            tally.expect(report == *due);
-            Ok(NO_CHANGE)
-        }
-        Err(refusal) => Err(refusal),
-    }
-}
-
-fn ask_governing<E: FlowEngine>(
-    engine: &E,
-    pipe: usize,
-    due: bool,
-    work: &mut [E::Place],
-    tally: &mut Tally,
-) -> Result<(i64, u32), Refusal> {
-    match engine.governing(pipe, work) {
-        Ok(governing) => {
-            tally.expect(governing == due);
-            Ok(NO_CHANGE)
-        }
-        Err(refusal) => Err(refusal),
-    }
-}
-
-// Room for a sheet, a flow and the letters of a pattern, and for some more.
-#[derive(Drop)]
-pub struct Room {
-    pub space: Vec<u8>,
-    pub row: Vec<u32>,
-    pub letters: Vec<u8>,
-}
-
-// Loads the sheet with another byte at one place.
-fn load_damaged<E: FlowEngine>(
-    engine: &mut E,
-    sheet: &[u8],
-    at: usize,
-    byte: u8,
-    work: &mut [E::Place],
-    space: &mut [u8],
-) -> Result<(i64, u32), Refusal> {
-    let length = sheet.len().min(space.len());
-    for k in 0..length {
-        space[k] = if k == at { byte } else { sheet[k] };
-    }
-    match engine.load(&space[0..length], work) {
-        Ok(_) => Ok(NO_CHANGE),
-        Err(refusal) => Err(refusal),
-    }
-}
-
-// Asks one thing of an engine. What it answers, but for the change and the count, must be as plan and report say.
-fn ask<E: FlowEngine>(
-    engine: &mut E,
-    request: Request,
-    plan: &Plan,
-    before: &Report,
-    work: &mut [E::Place],
-    room: &mut Room,
-    tally: &mut Tally,
-) -> Result<(i64, u32), Refusal> {
-    match request {
-        Request::Load(at, byte, _) => load_damaged(
-            engine,
-            &plan.sheet,
-            at,
-            byte,
-            work,
-            &mut room.space,
-        ),
-        Request::Open(pipe) => engine.open(pipe, work),
-        Request::Close(pipe) => engine.close(pipe, work),
-        Request::Limit(pipe, limit) => engine.limit(pipe, limit, work),
-        Request::Pattern => engine.pattern(&room.letters, work),
-        Request::Report => ask_report(engine, before, work, tally),
-        Request::Governing(pipe) => ask_governing(
-            engine,
-            pipe,
-            governs(plan, before, pipe),
-            work,
-            tally,
-        ),
-        Request::WriteSheet(length) => {
-            let length = length.min(room.space.len());
-            write_sheet(engine, &plan.sheet, &mut room.space[0..length], tally)
-        }
-        Request::ReadFlow(length) => {
-            let length = length.min(room.row.len());
-            read_flow(engine, plan.links.len(), &mut room.row[0..length], tally)
-        }
-    }
-}
-
-// Whether an engine says of each pipe whether it governs, as plan and report do.
-fn tells_governing<E: FlowEngine>(
-    engine: &E,
-    plan: &Plan,
-    report: &Report,
-    work: &mut [E::Place],
-) -> bool {
-    for pipe in 0..plan.links.len() {
-        let due = governs(plan, report, pipe);
-        match engine.governing(pipe, work) {
-            Ok(governing) if governing == due => {}
-            _ => return false,
-        }
-    }
-    true
-}
-
-// Looks at all that an engine shows, and holds it against the plan: sheet, flow, report and governing pipes. The answer is the report.
-fn look<E: FlowEngine>(
-    engine: &E,
-    plan: &Plan,
-    work: &mut [E::Place],
-    room: &mut Room,
-    tally: &mut Tally,
-) -> Report {
-    let written = write_sheet(engine, &plan.sheet, &mut room.space, tally).is_ok();
-    let read = read_flow(engine, plan.links.len(), &mut room.row, tally).is_ok();
-    let report = match engine.report(work) {
-        Ok(report) => report,
-        Err(_) => Report {
-            value: u32::MAX,
-            near: 0,
-            far: 0,
-        },
-    };
-    let pipes = plan.links.len().min(room.row.len());
-    let flows = &room.row[0..pipes];
-    tally.expect(written && read);
-    tally.expect(conserves(plan, flows, report.value));
-    tally.expect(shows(plan, flows, &report));
-    tally.expect(tells_governing(engine, plan, &report, work));
-    report
-}
-
-// Gives an engine the plan's sheet. What it reports then.
-fn start<E: FlowEngine>(
-    engine: &mut E,
-    plan: &Plan,
-    work: &mut [E::Place],
-    room: &mut Room,
-    tally: &mut Tally,
-) -> Report {
-    match engine.load(&plan.sheet, work) {
-        Ok(taken) => tally.expect(taken == plan.sheet.len()),
-        Err(_) => tally.expect(false),
-    }
-    look(engine, plan, work, room, tally)
-}
-
-// The count, where the answer is due: refused for that reason, with the report as it was, or carried out, with the change between the reports.
-fn due_count(
-    answer: Result<(i64, u32), Refusal>,
-    due: Option<Refusal>,
+// Whether a call was answered as is due: carried out, with the change between the reports, or refused for that reason,
+// with the report as it was.
+fn is_due(
+    answer: Result<Answer, Refusal>,
+    due: Result<(), Refusal>,
     before: &Report,
     after: &Report,
-) -> Option<u32> {
+) -> bool
+    ensures { Decides result (elim answer [
+      | Ok o ↦ elim due [
+        | Ok _ ↦ elim o [ Some d ↦ d.0 ≡ pos after.now.value -ℤ pos before.now.value | None ↦ before.now ≡ after.now ]
+        | Err _ ↦ ⊥
+      ]
+      | Err e ↦ elim due [ Ok _ ↦ ⊥ | Err f ↦ (e ≡ f) × (before.now ≡ after.now) ]
+    ]) }
+{
     match (answer, due) {
-        (Ok((change, count)), None)
-            if change == i64::from(after.value).wrapping_sub(i64::from(before.value)) => Some(
-            count,
-        ),
-        (Err(refusal), Some(other)) if refusal == other && *before == *after => Some(0),
-        _ => None,
-    }
-}
-
-// One call on an engine, and a look at what it shows then: the report, and the count.
-fn try_call<E: FlowEngine>(
-    engine: &mut E,
-    request: Request,
-    places: usize,
-    plan: &mut Plan,
-    before: &Report,
-    work: &mut [E::Place],
-    room: &mut Room,
-    tally: &mut Tally,
-) -> (Report, u32) {
-    let due = due(plan, request, &room.letters, places);
-    let places = places.min(work.len());
-    let answer = ask(
-        engine,
-        request,
-        plan,
-        before,
-        &mut work[0..places],
-        room,
-        tally,
-    );
-    if due.is_none() {
-        apply(plan, request, &room.letters);
-    }
-    let after = look(engine, plan, work, room, tally);
-    let count = due_count(answer, due, before, &after);
-    tally.expect(count.is_some());
-    (after, count.unwrap_or(0))
-}
-
-// A network and calls on it, drawn from the seed, on a new engine; then the last sheet on another new engine.
-// The first engine's reports are noted, and the others' compared with them. The answer is the sum of the counts.
-pub fn try_calls<E: FlowEngine + Drop>(
-    heap: Global,
-    seed: Random,
-    calls: usize,
-    work: &mut [E::Place],
-    room: &mut Room,
-    reports: &mut Vec<Report>,
-    tally: &mut Tally,
-) -> Result<u64, AllocError> {
-    let mut random = seed;
-    let shape = draw_shape(&mut random);
-    let mut plan = draw_plan(heap, &mut random, &shape)?;
-    let mut engine = E::new();
-    let mut report = start(&mut engine, &plan, work, room, tally);
-    let mut sum = 0u64;
-    for k in 0..calls {
-        let request = draw_request(&mut random, &plan, shape.widest, &mut room.letters)?;
-        let places = draw_places(&mut random);
-        if reports.len() <= k {
-            tally.note(due(&plan, request, &room.letters, places));
+        (Ok(Some((change, _))), Ok(())) => {
+            change == i64::from(after.value).wrapping_sub(i64::from(before.value))
         }
-        let (after, count) = try_call(
-            &mut engine,
-            request,
-            places,
-            &mut plan,
-            &report,
+        (Ok(None), Ok(())) => *before == *after,
+        (Err(refusal), Err(other)) => refusal == other && *before == *after,
+        _ => false,
+    }
+}
+
+// An engine and the plan of what it should mean, with the room that its calls are given, and the count of what was checked.
+#[derive(Drop)]
+pub struct Trial<E: FlowEngine + Drop>
+where
+    E::Place: Drop,
+{
+    engine: E,
+    plan: Plan,
+    // What the engine reported last, if it did.
+    report: Option<Report>,
+    work: Vec<E::Place>,
+    space: Vec<u8>,
+    row: Vec<u32>,
+    tally: Tally,
+}
+
+impl<E: FlowEngine + Drop> Trial<E>
+where
+    E::Place: Drop,
+{
+    // A bare engine, as its plan says, and room for the largest network.
+    pub fn new(heap: Global, work: Vec<E::Place>) -> Result<Trial<E>, AllocError> {
+        Ok(Trial {
+            engine: E::new(),
+            plan: Plan::new(heap, 2, 0, 1)?,
+            report: None,
             work,
-            room,
-            tally,
-        );
-        report = after;
-        sum = sum.wrapping_add(u64::from(count));
-        if k < reports.len() {
-            tally.expect(reports[k] == report);
-        } else {
-            reports.push(report)?;
+            space: vec![in heap; 0u8; (1 + MOST_PIPES) * LINE_BYTES + MORE]?,
+            row: vec![in heap; 0u32; MOST_PIPES + MORE]?,
+            tally: Tally::default(),
+        })
+    }
+
+    pub fn tally(&self) -> Tally {
+        self.tally
+    }
+
+    // Writes the sheet into a space of the length, which must then hold it and its marks, or its marks alone.
+    fn write_sheet(&mut self, length: usize) -> Result<(), Refusal> {
+        let length = length.min(self.space.len());
+        let space = &mut self.space[..length];
+        space.fill(MARK);
+        let answer = self.engine.write_sheet(space);
+        let sheet = &self.plan.sheet;
+        let right = leaves_marks(&answer, sheet.len(), space, &MARK);
+        self.tally
+            .expect(right && (answer.is_err() || space.starts_with(sheet)));
+        answer?;
+        Ok(())
+    }
+
+    // Reads the flow into a row of the length, which must keep its marks behind it, or everywhere.
+    fn read_flow(&mut self, length: usize) -> Result<(), Refusal> {
+        let length = length.min(self.row.len());
+        let row = &mut self.row[..length];
+        row.fill(NUMBER_MARK);
+        let answer = self.engine.read_flow(row);
+        let pipes = self.plan.links.len();
+        self.tally
+            .expect(leaves_marks(&answer, pipes, row, &NUMBER_MARK));
+        answer?;
+        Ok(())
+    }
+
+    // Loads the sheet with another byte at one place.
+    fn load_damaged(&mut self, damage: &Damage, places: usize) -> Result<(), Refusal>
+        requires { places ≤ vec_len self.old.work }
+    {
+        let length = self.plan.sheet.len().min(self.space.len());
+        let text = &mut self.space[..length];
+        text.copy_from_slice(&self.plan.sheet[..length]);
+        if damage.at < length {
+            text[damage.at] = damage.byte;
+        }
+        self.engine.load(text, &mut self.work[..places])?;
+        Ok(())
+    }
+
+    // Asks one thing of the engine, with at most so many places. What it answers, but for the change and the count, must
+    // be as plan and report say.
+    fn ask(&mut self, request: &Request, places: usize) -> Result<Answer, Refusal> {
+        let places = places.min(self.work.len());
+        match request {
+            Request::Load(damage) => {
+                self.load_damaged(damage, places)?;
+                Ok(None)
+            }
+            Request::Open(pipe) => {
+                let answer = self.engine.open(*pipe, &mut self.work[..places])?;
+                Ok(Some(answer))
+            }
+            Request::Close(pipe) => {
+                let answer = self.engine.close(*pipe, &mut self.work[..places])?;
+                Ok(Some(answer))
+            }
+            Request::Limit(pipe, limit) => {
+                let answer = self.engine.limit(*pipe, *limit, &mut self.work[..places])?;
+                Ok(Some(answer))
+            }
+            Request::Pattern(letters) => {
+                let answer = self.engine.pattern(letters, &mut self.work[..places])?;
+                Ok(Some(answer))
+            }
+            Request::Report => {
+                let report = self.engine.report(&mut self.work[..places])?;
+                self.tally.expect(self.report == Some(report));
+                Ok(None)
+            }
+            Request::Governing(pipe) => {
+                let governing = self.engine.governing(*pipe, &mut self.work[..places])?;
+                let due = self.governs(*pipe);
+                self.tally.expect(governing == due);
+                Ok(None)
+            }
+            Request::WriteSheet(length) => {
+                self.write_sheet(*length)?;
+                Ok(None)
+            }
+            Request::ReadFlow(length) => {
+                self.read_flow(*length)?;
+                Ok(None)
+            }
         }
     }
-    let mut other = E::new();
-    let again = start(&mut other, &plan, work, room, tally);
-    tally.expect(again == report);
-    Ok(sum)
+
+    // Whether a pipe governs by plan and report.
+    fn governs(&self, pipe: usize) -> bool {
+        match (self.plan.links.get(pipe), self.report) {
+            (Some(link), Some(report)) => link.governs(&report),
+            _ => false,
+        }
+    }
+
+    // Whether the engine says of each pipe whether it governs, as plan and report do.
+    fn tells_governing(&mut self, report: &Report) -> bool {
+        for (pipe, link) in self.plan.links.iter().enumerate() {
+            let due = link.governs(report);
+            if self.engine.governing(pipe, &mut self.work) != Ok(due) {
+                return false;
+            }
+        }
+        true
+    }
+
+    // Looks at all that the engine shows, and holds it against the plan: sheet, flow, report and governing pipes.
+    fn look(&mut self) {
+        let (space, row) = (self.space.len(), self.row.len());
+        let written = self.write_sheet(space).is_ok();
+        let read = self.read_flow(row).is_ok();
+        self.tally.expect(written && read);
+        self.report = self.engine.report(&mut self.work).ok();
+        let pipes = self.plan.links.len().min(self.row.len());
+        let flows = &self.row[..pipes];
+        let (conserved, shown) = match self.report {
+            Some(report) => (
+                self.plan.conserves(flows, report.value),
+                self.plan.shows(flows, &report),
+            ),
+            None => (false, false),
+        };
+        self.tally.expect(conserved);
+        self.tally.expect(shown);
+        let told = match self.report {
+            Some(report) => self.tells_governing(&report),
+            None => false,
+        };
+        self.tally.expect(told);
+    }
+
+    // Gives a new engine the plan's sheet.
+    fn start(&mut self) {
+        self.engine = E::new();
+        let taken = self.engine.load(&self.plan.sheet, &mut self.work);
+        self.tally.expect(taken == Ok(self.plan.sheet.len()));
+        self.look();
+    }
+
+    // One call on the engine, and a look at what it shows then.
+    fn call(&mut self, request: &Request, places: usize) {
+        let due = self.plan.due(request, places);
+        let before = self.report;
+        let answer = self.ask(request, places);
+        if due.is_ok() {
+            self.plan.apply(request);
+        }
+        self.look();
+        let right = match (before, self.report) {
+            (Some(before), Some(after)) => is_due(answer, due, &before, &after),
+            _ => false,
+        };
+        self.tally.expect(right);
+        if let Ok(Some((_, augmentations))) = answer {
+            self.tally.count(augmentations);
+        }
+    }
+
+    // A network and calls on it, drawn from the seed, on a new engine; then the last sheet on another new engine.
+    // The first engine's reports are noted, and the others' compared with them.
+    pub fn run(
+        &mut self,
+        heap: Global,
+        seed: Random,
+        calls: usize,
+        log: &mut Log,
+    ) -> Result<(), AllocError> {
+        let mut random = seed;
+        let shape = random.draw_shape();
+        self.plan = random.draw_plan(heap, &shape)?;
+        self.start();
+        // By the number of the call: the first engine has no report there yet, and adds it.
+        for k in 0..calls {
+            let request = random.draw_request(heap, &self.plan, shape.widest)?;
+            let places = random.draw_places();
+            let due = self.plan.due(&request, places);
+            self.call(&request, places);
+            match log.reports.get(k) {
+                Some(report) => self.tally.expect(self.report == *report),
+                None => log.note(due, self.report)?,
+            }
+        }
+        let last = self.report;
+        self.start();
+        self.tally.expect(self.report == last);
+        Ok(())
+    }
 }

@@ -6,32 +6,18 @@ use interface::engine::Engine;
 use network::table::MOST_JUNCTIONS;
 use paths::fewest::Fewest;
 use paths::label::Label;
-use rating::page::rate;
+use rating::page::{MOST_PAGE, rate};
 use std::io;
 use std::io::{Read, Write};
-use writing::page::put_fail;
+use writing::page::fail_line;
 
 // The program takes so many bytes; the longest right text is shorter.
-const MOST_TEXT: usize = 65_536;
-
-// A page of 100 steps for 64 junctions and 512 pipes.
-const MOST_PAGE: usize = 60_519;
-
-const FAIL_LENGTH: usize = 15;
+const MOST_TEXT: u64 = 65_536;
 
 // Standard input, up to its end or as much as the program takes.
 fn read_text(rt: &HostRuntime) -> io::Result<Vec<u8>> {
-    let mut text = vec![in rt.alloc(); 0u8; MOST_TEXT]?;
-    let mut input = rt.stdin();
-    let mut length = 0;
-    for _ in 0..MOST_TEXT {
-        let taken = input.read(&mut text[length..])?;
-        if taken == 0 {
-            break;
-        }
-        length += taken;
-    }
-    text.truncate(length);
+    let mut text = Vec::new(rt.alloc());
+    rt.stdin().take(MOST_TEXT).read_to_end(&mut text)?;
     Ok(text)
 }
 
@@ -39,12 +25,7 @@ fn main(rt: HostRuntime) -> anyhow::Result<()> {
     let text = read_text(&rt)?;
     let mut page = vec![in rt.alloc(); 0u8; MOST_PAGE]?;
     let mut engine: WarmEngine<Fewest> = WarmEngine::new();
-    let unused = Label {
-        length: Fewest { pipes: 0, least: 0 },
-        steps: 0,
-        via: None,
-    };
-    let mut work = [unused; MOST_JUNCTIONS];
+    let mut work = [Label::unreached(); MOST_JUNCTIONS];
     let mut output = rt.stdout();
     match rate(&mut engine, &text, &mut work, &mut page) {
         Ok(length) => {
@@ -53,9 +34,7 @@ fn main(rt: HostRuntime) -> anyhow::Result<()> {
             Ok(())
         }
         Err(refusal) => {
-            let mut line = [0u8; FAIL_LENGTH];
-            put_fail(&mut line, &refusal);
-            output.write_all(&line)?;
+            output.write_all(&fail_line(&refusal))?;
             Err(anyhow!("refused"))
         }
     }

@@ -8,7 +8,7 @@ use Rattle.formats.specs.Pages.{rate_line, governing_line, total_line}
 use Rattle.formats.specs.Schedules.{Timed}
 use Rattle.writing.proofs.PageLines.{rate_length, governing_length, total_length}
 use Rattle.interface.specs.Verdicts.{lettered}
-use Rattle.rating.specs.Pages.{governing_row, step_lines, stepped, all_lines, litres, last_network, page_of, page_length_of}
+use Rattle.rating.specs.Pages.{governing_row, step_lines, stepped, all_lines, litres, page_of, page_length_of}
 
 pub pipes_length : (w : Network) (n : ℕ) → length (governing_row w n) ≡ n
 unfolding governing_row
@@ -35,16 +35,6 @@ stepped_size w s = lettered_length s.letters w.pipes
 pub stepped_junctions : (w : Network) (s : Timed) → (stepped w s).junctions ≡ w.junctions
 unfolding stepped
 stepped_junctions w s = refl
-
-pub last_size : (w : Network) (ss : List Timed) → size (last_network w ss) ≡ size w
-unfolding last_network
-last_size w [] = refl
-last_size w (s ∷ ss) = last_size (stepped w s) ss ∙ stepped_size w s
-
-pub last_junctions : (w : Network) (ss : List Timed) → (last_network w ss).junctions ≡ w.junctions
-unfolding last_network
-last_junctions w [] = refl
-last_junctions w (s ∷ ss) = last_junctions (stepped w s) ss ∙ stepped_junctions w s
 
 pub all_length : (i : ℕ) (w : Network) (ss : List Timed) → length (all_lines i w ss) ≡ length ss * (w.junctions + size w + 29)
 unfolding all_lines

@@ -3,7 +3,7 @@ use Rattle.std.proofs.Common.{◌≡◌, ℕ, suc, ◌+◌, ◌*◌, ◌<◌, �
 use Rattle.std.specs.List.{AllByRecursion}
 use Rattle.std.proofs.lemmas.Nat.{mul-le}
 use Rattle.std.proofs.ByRecursion.{All-get_or}
-use Rattle.std.proofs.lemmas.List.{length-take-le, get_or-map, get_or-take, map_more}
+use Rattle.std.proofs.lemmas.List.{length-map, get_or-map, map_more}
 use Rattle.network.specs.Network.{Network}
 use Rattle.network.specs.Reports.{report_of}
 use Rattle.network.specs.Residual.{size}
@@ -19,19 +19,17 @@ use Rattle.rating.proofs.Writing.{then}
 use Rattle.writing.proofs.Puts.{put_none}
 use Rattle.texts.proofs.Reading.{steps_length}
 
-pub step_at : (steps : List TimedPattern) (n k pipes : ℕ) (d : TimedPattern) → k < n → n ≤ length steps → AllByRecursion (SoundStep pipes) (map timed (take n steps)) → SoundStep pipes (timed (get_or steps k d))
-step_at steps n k pipes d h i all =
-    let long : length (take n steps) ≡ n = length-take-le n steps i in
-    let each : SoundStep pipes (get_or (map timed (take n steps)) k (timed d)) = All-get_or (SoundStep pipes) (map timed (take n steps)) k (timed d) (omega (arith, steps_length steps n i)) all in
-    subst (SoundStep pipes) (get_or-map timed (take n steps) k d (timed d) (omega arith) ∙ ap timed (get_or-take n steps k d h)) each
+pub step_at : (steps : List TimedPattern) (k pipes : ℕ) (d : TimedPattern) → k < length steps → AllByRecursion (SoundStep pipes) (map timed steps) → SoundStep pipes (timed (get_or steps k d))
+step_at steps k pipes d h all =
+    subst (SoundStep pipes) (get_or-map timed steps k d (timed d) h) (All-get_or (SoundStep pipes) (map timed steps) k (timed d) (omega (arith, length-map {A = TimedPattern} {B = Timed})) all)
 
 -- there is room for one step more
 pub room : (k n per space : ℕ) → k < n → n * per ≤ space → k * per + per ≤ space
 room k n per space h fits = let more : suc k * per ≤ n * per = mul-le-mul_right per (let i : suc k ≤ n = omega arith in i) in omega (arith, suc-mul k per)
 
 -- no step has more litres
-pub step_litres : (value minutes : ℕ) → value ≤ 30720000 → minutes ≤ 1440 → value * minutes ≤ 44236800000
-step_litres value minutes h i = omega (arith, mul-le value minutes 30720000 1440 h i)
+pub step_litres : (steps : List TimedPattern) (k pipes : ℕ) (d : TimedPattern) (value : ℕ) → k < length steps → AllByRecursion (SoundStep pipes) (map timed steps) → value ≤ 30720000 → value * (get_or steps k d).minutes ≤ 44236800000
+step_litres steps k pipes d value h all few = omega (arith, mul-le value (get_or steps k d).minutes 30720000 1440 few (step_at steps k pipes d h all).few)
 
 -- what the first steps have made of engine, page and total
 pub record Rated (w : Network) (space : List ℕ) (ss : List Timed) (u : Network) (page : List ℕ) (total : ℕ) : Type 0 where

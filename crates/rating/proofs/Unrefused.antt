@@ -1,6 +1,6 @@
 -- What an engine does where nothing is missed.
-use Rattle.std.proofs.Common.{◌≡◌, ℕ, ◌<◌, ◌≤◌, Bool, true, cond, eqb, ltb, List, length, Ok, Err, Result, ap, ◌∙◌}
-use Rattle.std.proofs.lemmas.Bool.{lt-ltb, le-ltb, eq-eqb}
+use Rattle.std.proofs.Common.{◌≡◌, ℕ, ◌<◌, ◌≤◌, Bool, cond, eqb, ltb, List, length, Ok, Err, Result, ap, ◌∙◌}
+use Rattle.std.proofs.lemmas.Bool.{cond_both, lt-ltb, le-ltb}
 use Rattle.network.specs.declared.report.Report.{Report}
 use Rattle.network.specs.Governing.{governing}
 use Rattle.network.specs.Network.{Network}
@@ -11,8 +11,9 @@ use Rattle.formats.specs.declared.refusal.Refusal.TheVariants.{FewPlaces, NoSuch
 use Rattle.formats.specs.Letters.{is_pattern}
 use Rattle.interface.specs.Verdicts.{with_places, patterned, patterning, reporting, asking}
 
-pub same : {A : Type 0} (r : Result A Refusal) (x y : A) → r ≡ Ok x → r ≡ Ok y → x ≡ y
-same r x y p q = cc
+-- a call has one answer
+pub one_answer : {A : Type 0} (r : Result A Refusal) (x y : A) → r ≡ Ok x → r ≡ Ok y → x ≡ y
+one_answer r x y p q = cc
 
 -- enough places
 pub placed : {A : Type 0} (most places : ℕ) (r : Result A Refusal) → most ≤ places → with_places most places r ≡ r
@@ -23,20 +24,19 @@ asking_is most places w k h l =
     placed most places (cond (ltb k (size w)) (Ok (governing w (report_of w) k)) (Err NoSuchPipe)) h
     ∙ ap (λ (b : Bool). cond {A = Result Bool Refusal} b (Ok (governing w (report_of w) k)) (Err NoSuchPipe)) (lt-ltb k (size w) l)
 
-pub asked : (most places : ℕ) (w : Network) (k : ℕ) (r : Result Bool Refusal) (b : Bool) → most ≤ places → k < size w → r ≡ asking most places w k → r ≡ Ok b → b ≡ governing w (report_of w) k
-asked most places w k r b h l d e = same r b (governing w (report_of w) k) e (d ∙ asking_is most places w k h l)
+pub asked : (most places : ℕ) (u w : Network) (k : ℕ) (r : Result Bool Refusal) (b : Bool) → u ≡ w → most ≤ places → k < size w → r ≡ asking most places u k → r ≡ Ok b → b ≡ governing w (report_of w) k
+asked most places u w k r b same h l d e = one_answer r b (governing w (report_of w) k) e (d ∙ ap (λ (v : Network). asking most places v k) same ∙ asking_is most places w k h l)
 
 pub reporting_is : (most places : ℕ) (w : Network) → most ≤ places → reporting most places w ≡ Ok (report_of w)
 reporting_is most places w h = placed most places (Ok (report_of w)) h
 
 pub reported : (most places : ℕ) (w : Network) (r : Result Report Refusal) (x : Report) → most ≤ places → r ≡ reporting most places w → r ≡ Ok x → x ≡ report_of w
-reported most places w r x h d e = same r x (report_of w) e (d ∙ reporting_is most places w h)
+reported most places w r x h d e = one_answer r x (report_of w) e (d ∙ reporting_is most places w h)
 
-pub patterning_is : (most places : ℕ) (w : Network) (bs : List ℕ) → most ≤ places → length bs ≡ size w → is_pattern bs ≡ true → patterning most places w bs ≡ Ok (patterned w bs)
-patterning_is most places w bs h long p =
-    placed most places (cond (eqb (length bs) (size w)) (cond (is_pattern bs) (Ok (patterned w bs)) (Err (WrongLetter 0))) (Err (BadLine 0))) h
-    ∙ ap (λ (b : Bool). cond {A = Result Network Refusal} b (cond (is_pattern bs) (Ok (patterned w bs)) (Err (WrongLetter 0))) (Err (BadLine 0))) (eq-eqb (length bs) (size w) long)
-    ∙ ap (λ (b : Bool). cond {A = Result Network Refusal} b (Ok (patterned w bs)) (Err (WrongLetter 0))) p
-
-pub set_is : (most places : ℕ) (w u : Network) (bs : List ℕ) → most ≤ places → length bs ≡ size w → is_pattern bs ≡ true → patterning most places w bs ≡ Ok u → u ≡ patterned w bs
-set_is most places w u bs h long p e = same (patterning most places w bs) u (patterned w bs) e (patterning_is most places w bs h long p)
+pub pattern_ok : (most places : ℕ) (w u : Network) (bs : List ℕ) → patterning most places w bs ≡ Ok u → u ≡ patterned w bs
+pattern_ok most places w u bs =
+    let P = (λ (r : Result Network Refusal). r ≡ Ok u → u ≡ patterned w bs) in
+    cond_both (ltb places most) (Err FewPlaces) _ P (λ _ h. cc)
+    (λ _. cond_both (eqb (length bs) (size w)) _ (Err (BadLine 0)) P
+    (λ _. cond_both (is_pattern bs) (Ok (patterned w bs)) (Err (WrongLetter 0)) P (λ _ h. cc) (λ _ h. cc))
+    (λ _ h. cc))

@@ -14,17 +14,16 @@ ghost use Rattle.rating.specs.Ratings.{rating};
 use formats::refusal::Refusal;
 use formats::schedule::{MOST_STEPS, TimedPattern};
 use interface::engine::Engine;
-use network::table::MOST_PIPES;
+use network::table::{MOST_JUNCTIONS, MOST_PIPES};
 use texts::extent::Extent;
 use texts::text::read_text;
-use writing::page::{put_governing, put_rate, put_total};
+use writing::page::{GOVERNING_BYTES, RATE_BYTES, TOTAL_BYTES, put_governing, put_rate, put_total};
 
-// Beside its letters, a RATE line has 19 bytes, a GOVN line 10, and a TOTL line 19 in all.
-const STEP_BYTES: usize = 29;
+// The bytes of a step's two lines beside their letters.
+const STEP_BYTES: usize = RATE_BYTES + GOVERNING_BYTES;
 
-const RATE_BYTES: usize = 19;
-
-const TOTAL_BYTES: usize = 19;
+// The bytes of the longest page.
+pub const MOST_PAGE: usize = MOST_STEPS * (MOST_JUNCTIONS + MOST_PIPES + STEP_BYTES) + TOTAL_BYTES;
 
 // The bytes of a step's two lines.
 fn step_length(extent: &Extent) -> usize
@@ -40,77 +39,76 @@ pub fn page_length(extent: &Extent) -> usize
     extent.steps * step_length(extent) + TOTAL_BYTES
 }
 
-// Which of the first pipes are governing.
-fn ask_governing<E: Engine>(engine: &E, work: &mut [E::Place], pipes: usize) -> [bool; MOST_PIPES]
-    requires placed { E.Engine.most ≤ length work.old }
-    requires sized { pipes ≡ size (E.Engine.meaning engine.now) }
-    requires held { pipes ≤ 512 }
-    ensures row { take pipes result ≡ governing_row (E.Engine.meaning engine.now) pipes }
-    ensures long { length result ≡ 512 }
-{
-    let mut marks = [false; MOST_PIPES];
-    for k in 0..pipes {
-        marks[k] = engine.governing(k, work).unwrap();
-    }
-    marks
+// An engine with a workspace that is large enough, and how much it is to rate: its network has so many junctions and pipes.
+// That a method leaves the `ghost_name` of a reference as it was says that the reference is still the caller's.
+#[derive(Drop)]
+struct Rater<'e, 'w, E: Engine> {
+    engine: &'e mut E,
+    work: &'w mut [E::Place],
+    extent: Extent,
+    ghost placed: { E.Engine.MOST_JUNCTIONS ≤ length work.now },
+    ghost joined: { extent.junctions ≡ (E.Engine.meaning engine.now).junctions },
+    ghost sized: { extent.pipes ≡ size (E.Engine.meaning engine.now) },
 }
 
-// Sets the valves for a step and writes its two lines. The answer is the value.
-fn rate_step<E: Engine>(
-    engine: &mut E,
-    work: &mut [E::Place],
-    page: &mut [u8],
-    at: usize,
-    step: usize,
-    letters: &[u8],
-    extent: &Extent,
-) -> u32
-    requires placed { E.Engine.most ≤ length work.old }
-    requires joined { extent.now.junctions ≡ (E.Engine.meaning engine.old).junctions }
-    requires sized { extent.now.pipes ≡ size (E.Engine.meaning engine.old) }
-    requires long { length letters.now ≡ extent.now.pipes }
-    requires sound { is_pattern letters.now ≡ true }
-    requires fits { at + (extent.now.junctions + extent.now.pipes + 29) ≤ length page.old }
-    ensures means { E.Engine.meaning engine.new ≡ patterned (E.Engine.meaning engine.old) letters.now }
-    ensures written { page.new ≡ put_at at (step_lines step (patterned (E.Engine.meaning engine.old) letters.now)) page.old }
-    ensures value { result ≡ (report_of (patterned (E.Engine.meaning engine.old) letters.now)).value }
-    ensures small { result ≤ 30720000 }
-{
-    engine.pattern(letters, work).unwrap();
-    let report = engine.report(work).unwrap();
-    put_rate(page, at, step, &report, extent.junctions);
-    let marks = ask_governing(engine, work, extent.pipes);
-    let next = at + extent.junctions + RATE_BYTES;
-    put_governing(page, next, step, &marks[..extent.pipes]);
-    report.value
-}
-
-// Rates the steps one after the other. The answer is the litres of them all.
-fn rate_steps<E: Engine>(
-    engine: &mut E,
-    work: &mut [E::Place],
-    page: &mut [u8],
-    steps: &[TimedPattern],
-    extent: &Extent,
-) -> u64
-    requires placed { E.Engine.most ≤ length work.old }
-    requires joined { extent.now.junctions ≡ (E.Engine.meaning engine.old).junctions }
-    requires sized { extent.now.pipes ≡ size (E.Engine.meaning engine.old) }
-    requires long { extent.now.steps ≤ length steps.now }
-    requires sound { AllByRecursion (SoundStep extent.now.pipes) (map timed (take extent.now.steps steps.now)) }
-    requires fits { extent.now.steps * (extent.now.junctions + extent.now.pipes + 29) ≤ length page.old }
-    ensures means { E.Engine.meaning engine.new ≡ last_network (E.Engine.meaning engine.old) (map timed (take extent.now.steps steps.now)) }
-    ensures written { page.new ≡ put_at 0 (all_lines 1 (E.Engine.meaning engine.old) (map timed (take extent.now.steps steps.now))) page.old }
-    ensures total { result ≡ litres (E.Engine.meaning engine.old) (map timed (take extent.now.steps steps.now)) }
-{
-    let length = step_length(extent);
-    let mut total = 0;
-    for k in 0..extent.steps {
-        let step = steps[k];
-        let value = rate_step(engine, work, page, k * length, k + 1, step.letters, extent);
-        total += value as u64 * step.minutes as u64;
+impl<E: Engine> Rater<'_, '_, E> {
+    // Which pipes are governing, a mark for each.
+    fn ask_governing(&mut self, marks: &mut [bool])
+        requires sized { length marks.old ≡ self.old.extent.pipes }
+        ensures row { marks.new ≡ governing_row (E.Engine.meaning self.old.engine.now) self.old.extent.pipes }
+        ensures same_engine { self.new.engine ≡ self.old.engine }
+        ensures same_extent { self.new.extent ≡ self.old.extent }
+        ensures same_work { self.new.work.ghost_name ≡ self.old.work.ghost_name }
+    {
+        for (k, mark) in marks.iter_mut().enumerate() {
+            *mark = self.engine.governing(k, self.work).unwrap();
+        }
     }
-    total
+
+    // Sets the valves for a step and writes its two lines. The answer is the value.
+    fn rate_step(&mut self, page: &mut [u8], at: usize, step: usize, letters: &[u8]) -> u32
+        requires long { length letters.now ≡ self.old.extent.pipes }
+        requires sound { is_pattern letters.now ≡ true }
+        requires fits { at + (self.old.extent.junctions + self.old.extent.pipes + 29) ≤ length page.old }
+        ensures means { E.Engine.meaning self.new.engine.now ≡ patterned (E.Engine.meaning self.old.engine.now) letters.now }
+        ensures written { page.new ≡ put_at at (step_lines step (patterned (E.Engine.meaning self.old.engine.now) letters.now)) page.old }
+        ensures value { result ≡ (report_of (patterned (E.Engine.meaning self.old.engine.now) letters.now)).value }
+        ensures small { result ≤ 30720000 }
+        ensures same_extent { self.new.extent ≡ self.old.extent }
+        ensures same_engine { self.new.engine.ghost_name ≡ self.old.engine.ghost_name }
+        ensures same_work { self.new.work.ghost_name ≡ self.old.work.ghost_name }
+    {
+        self.engine.pattern(letters, self.work).unwrap();
+        let report = self.engine.report(self.work).unwrap();
+        put_rate(page, at, step, &report, self.extent.junctions);
+        let next = at + self.extent.junctions + RATE_BYTES;
+        // No heap: an array for the most pipes, of which a slice of as many as there are is passed on.
+        let mut marks = [false; MOST_PIPES];
+        let marks = &mut marks[..self.extent.pipes];
+        self.ask_governing(marks);
+        put_governing(page, next, step, marks);
+        report.value
+    }
+
+    // Rates the steps one after the other. The answer is the litres of them all.
+    fn rate_steps(&mut self, page: &mut [u8], steps: &[TimedPattern]) -> u64
+        requires long { length steps.now ≡ self.old.extent.steps }
+        requires sound { AllByRecursion (SoundStep self.old.extent.pipes) (map timed steps.now) }
+        requires fits { self.old.extent.steps * (self.old.extent.junctions + self.old.extent.pipes + 29) ≤ length page.old }
+        ensures means { E.Engine.meaning self.new.engine.now ≡ last_network (E.Engine.meaning self.old.engine.now) (map timed steps.now) }
+        ensures written { page.new ≡ put_at 0 (all_lines 1 (E.Engine.meaning self.old.engine.now) (map timed steps.now)) page.old }
+        ensures total { result ≡ litres (E.Engine.meaning self.old.engine.now) (map timed steps.now) }
+        ensures same_engine { self.new.engine.ghost_name ≡ self.old.engine.ghost_name }
+        ensures same_work { self.new.work.ghost_name ≡ self.old.work.ghost_name }
+    {
+        let length = step_length(&self.extent);
+        let mut total = 0;
+        for (k, step) in steps.iter().enumerate() {
+            let value = self.rate_step(page, k * length, k + 1, step.letters);
+            total += value as u64 * step.minutes as u64;
+        }
+        total
+    }
 }
 
 // The rating page of a text, a sheet and the schedule that follows it. The answer is the page's length.
@@ -123,22 +121,23 @@ pub fn rate<E: Engine>(
 ) -> Result<usize, Refusal>
     ensures { elim result [
       | Ok n ↦ (w : Network) × (ss : List Timed)
-          × (rating E.Engine.most (length work.old) text.now (length page.old) ≡ Ok (w, ss))
+          × (rating E.Engine.MOST_JUNCTIONS (length work.old) text.now (length page.old) ≡ Ok (w, ss))
           × (n ≡ length (page_of w ss))
           × (n ≡ page_length_of (length ss) w.junctions (size w))
           × (page.new ≡ put_at 0 (page_of w ss) page.old)
           × (E.Engine.meaning engine.new ≡ last_network w ss)
           × (text.now ≡ text_of w ss)
-      | Err e ↦ (rating E.Engine.most (length work.old) text.now (length page.old) ≡ Err e)
+      | Err e ↦ (rating E.Engine.MOST_JUNCTIONS (length work.old) text.now (length page.old) ≡ Err e)
           × (engine.new ≡ engine.old)
           × (work.new ≡ work.old)
           × (page.new ≡ page.old)
     ] }
 {
-    let most = E::junction_bound();
+    let most = E::MOST_JUNCTIONS;
     if work.len() < most {
         return Err(Refusal::FewPlaces);
     }
+    // No heap: an array for the most steps, of which a slice of those that were read is passed on.
     let mut steps = [TimedPattern {
         minutes: 0,
         letters: b"",
@@ -149,7 +148,12 @@ pub fn rate<E: Engine>(
         return Err(Refusal::LittleSpace);
     }
     engine.load(text, work).unwrap();
-    let total = rate_steps(engine, work, page, &steps, &extent);
+    let mut rater = Rater {
+        engine,
+        work,
+        extent,
+    };
+    let total = rater.rate_steps(page, &steps[..extent.steps]);
     put_total(page, length - TOTAL_BYTES, total);
     Ok(length)
 }

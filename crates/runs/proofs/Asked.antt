@@ -1,5 +1,6 @@
 -- One request: what an engine ensured of it, as an answer.
-use Rattle.std.proofs.Common.{◌≡◌, ℕ, List, length, Ok, Err, vec_items, Vec, sym, ap, ◌∙◌, subst, Bor}
+use Rattle.std.proofs.Common.{◌≡◌, ℕ, List, length, Ok, Err, vec_items, Result, Vec, refl, sym, ap, ◌∙◌, subst, Bor}
+use Rattle.std.specs.Result.{MatchResult}
 use Rattle.std.specs.declared.alloc.Global.{Global}
 use Rattle.network.specs.Network.{Network}
 use Rattle.formats.specs.declared.refusal.Refusal.{Refusal}
@@ -13,10 +14,24 @@ use Rattle.runs.specs.declared.call.Request.{Request}
 use Rattle.runs.specs.declared.call.Request.TheVariants.{WriteSheet, ReadFlow}
 use Rattle.runs.specs.Runs.{Answers, writes, not_writes, reads, not_reads}
 
+-- what an engine ensured of a call, and what became of the call's answer
+pub told : {X : Type 0} (P P' : X → Type 0) (Q Q' : Refusal → Type 0) (C : Type 0) (r : Result X Refusal) → elim r as (λ x. Type 0) [ Ok x ↦ P x | Err e ↦ Q e ] → MatchResult r P' Q' → ((x : X) → P x → P' x → C) → ((e : Refusal) → Q e → Q' e → C) → C
+told P P' Q Q' C (Ok x) h i one other = one x h i
+told P P' Q Q' C (Err e) h i one other = other e h i
+
+-- the same of a call that leaves the engine
+pub answered : {X : Type 0} (r : Result X Refusal) (P : X → Type 0) (Q : Refusal → Type 0) {C : Type 0} → MatchResult r P Q → ((x : X) → r ≡ Ok x → P x → C) → ((e : Refusal) → r ≡ Err e → Q e → C) → C
+answered (Ok x) P Q i one other = one x refl i
+answered (Err e) P Q i one other = other e refl i
+
 module _ {Λ : Type 0} {most : ℕ} {manner : Manner} {good : Λ → Λ → Type 0} {start : Λ} {extended : Λ → ℕ → Λ} where
   pub at_request : {p : ℕ} {w u : Network} {f g : List ℕ} {a : Answer} {q s : Request} → q ≡ s
       → Answers most manner good start extended p w f s a u g → Answers most manner good start extended p w f q a u g
   at_request {p} {w} {u} {f} {g} {a} e h = subst (λ (x : Request). Answers most manner good start extended p w f x a u g) (sym e) h
+
+  pub at_answer : {p : ℕ} {w u : Network} {f g : List ℕ} {a b : Answer} {q : Request} → a ≡ b
+      → Answers most manner good start extended p w f q b u g → Answers most manner good start extended p w f q a u g
+  at_answer {p} {w} {u} {f} {g} {a} {b} {q} e h = subst (λ (x : Answer). Answers most manner good start extended p w f q x u g) (sym e) h
 
   -- a refused call left the engine
   pub stays : {p : ℕ} {E : Type 0} (meaning : E → Network) (kept : E → List ℕ) (old new : E) {q : Request} {a : Answer} → new ≡ old

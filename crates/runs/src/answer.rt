@@ -10,9 +10,9 @@ pub enum Answer {
     Changed(i64, u32),
     Reported(Report),
     Governs(bool),
-    // The length of the sheet, and what the space holds after.
+    // The length of the sheet, and what the space holds after, which may be more than the sheet.
     Sheet(usize, Vec<u8>),
-    // The number of pipes, and what the row holds after.
+    // The number of pipes, and what the row holds after, which may be more.
     Flow(usize, Vec<u32>),
     Refused(Refusal),
 }

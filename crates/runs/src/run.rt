@@ -1,5 +1,6 @@
 ghost use Rattle.std.specs.Prelude.{◌≡◌, ◌<◌, min, [], length, IfOk, None, OnErr, OnOk, ◌≢◌};
 ghost use Rattle.runs.specs.Agreements.{SameCalls, AnswersAgree};
+ghost use Rattle.runs.specs.declared.answer.Answer.TheVariants.{Changed};
 ghost use Rattle.runs.specs.Runs.{Answers, Begun};
 ghost use Rattle.runs.specs.Statements.{EqualReports, Faithful};
 
@@ -8,18 +9,11 @@ use crate::call::{Call, Request};
 use interface::engine::{Engine, FlowEngine};
 use std::alloc::{AllocError, Global};
 
-// What the caller's space holds.
-fn bytes_of(heap: Global, old: &[u8]) -> Result<Vec<u8>, AllocError>
-    ensures { IfOk result (λ v. v.items ≡ old.now) }
+// A change of the greatest value, with the number of augmentations.
+fn changed(done: (i64, u32)) -> Answer
+    ensures { result ≡ Changed done.0 done.1 }
 {
-    old.to_vec(heap)
-}
-
-// What the caller's row holds.
-fn numbers_of(heap: Global, old: &[u32]) -> Result<Vec<u32>, AllocError>
-    ensures { IfOk result (λ v. v.items ≡ old.now) }
-{
-    old.to_vec(heap)
+    Answer::Changed(done.0, done.1)
 }
 
 // What a run gave: an answer for each call until it ended, or until there was no memory for the next.
@@ -29,54 +23,59 @@ pub struct Ran {
     pub stopped: Option<AllocError>,
 }
 
-// One request, given the whole workspace.
+// The clauses below name the engine's members one by one, since `Works` of the interface takes them so, and a record of them
+// would be spelled with all of them in each clause.
+
+// One request, given the whole workspace. It is data, matched here alone: a closure in its place could not be copied,
+// nor could a contract say what was asked.
 fn ask<E: FlowEngine>(
     heap: Global,
     engine: &mut E,
     request: &Request,
     work: &mut [E::Place],
 ) -> Result<Answer, AllocError>
-    ensures { IfOk result (λ a. Answers E.Engine.most E.FlowEngine.manner E.Metric.PathMetric.good E.Metric.PathMetric.start E.Metric.PathMetric.extended (length work.old)
+    ensures { IfOk result (λ a. Answers E.Engine.MOST_JUNCTIONS E.FlowEngine.manner E.Metric.PathMetric.good E.Metric.PathMetric.start E.Metric.PathMetric.extended (length work.old)
         (E.Engine.meaning engine.old) (E.FlowEngine.kept engine.old) request.now a (E.Engine.meaning engine.new) (E.FlowEngine.kept engine.new)) }
 {
     match *request {
-        Request::Load(text) => match engine.load(text, work) {
-            Ok(n) => Ok(Answer::Loaded(n)),
-            Err(e) => Ok(Answer::Refused(e)),
-        },
-        Request::Open(pipe) => match engine.open(pipe, work) {
-            Ok((change, n)) => Ok(Answer::Changed(change, n)),
-            Err(e) => Ok(Answer::Refused(e)),
-        },
-        Request::Close(pipe) => match engine.close(pipe, work) {
-            Ok((change, n)) => Ok(Answer::Changed(change, n)),
-            Err(e) => Ok(Answer::Refused(e)),
-        },
-        Request::Limit(pipe, limit) => match engine.limit(pipe, limit, work) {
-            Ok((change, n)) => Ok(Answer::Changed(change, n)),
-            Err(e) => Ok(Answer::Refused(e)),
-        },
-        Request::Pattern(letters) => match engine.pattern(letters, work) {
-            Ok((change, n)) => Ok(Answer::Changed(change, n)),
-            Err(e) => Ok(Answer::Refused(e)),
-        },
-        Request::Report => match engine.report(work) {
-            Ok(report) => Ok(Answer::Reported(report)),
-            Err(e) => Ok(Answer::Refused(e)),
-        },
-        Request::Governing(pipe) => match engine.governing(pipe, work) {
-            Ok(governs) => Ok(Answer::Governs(governs)),
-            Err(e) => Ok(Answer::Refused(e)),
-        },
+        Request::Load(text) => {
+            let told = engine.load(text, work);
+            Ok(told.map_or_else(Answer::Refused, Answer::Loaded))
+        }
+        Request::Open(pipe) => {
+            let told = engine.open(pipe, work);
+            Ok(told.map_or_else(Answer::Refused, changed))
+        }
+        Request::Close(pipe) => {
+            let told = engine.close(pipe, work);
+            Ok(told.map_or_else(Answer::Refused, changed))
+        }
+        Request::Limit(pipe, limit) => {
+            let told = engine.limit(pipe, limit, work);
+            Ok(told.map_or_else(Answer::Refused, changed))
+        }
+        Request::Pattern(letters) => {
+            let told = engine.pattern(letters, work);
+            Ok(told.map_or_else(Answer::Refused, changed))
+        }
+        Request::Report => {
+            let told = engine.report(work);
+            Ok(told.map_or_else(Answer::Refused, Answer::Reported))
+        }
+        Request::Governing(pipe) => {
+            let told = engine.governing(pipe, work);
+            Ok(told.map_or_else(Answer::Refused, Answer::Governs))
+        }
+        // The last two answers keep the copy that was written.
         Request::WriteSheet(old) => {
-            let mut space = bytes_of(heap, old)?;
+            let mut space = old.to_vec(heap)?;
             match engine.write_sheet(&mut space) {
                 Ok(n) => Ok(Answer::Sheet(n, space)),
                 Err(e) => Ok(Answer::Refused(e)),
             }
         }
         Request::ReadFlow(old) => {
-            let mut row = numbers_of(heap, old)?;
+            let mut row = old.to_vec(heap)?;
             match engine.read_flow(&mut row) {
                 Ok(n) => Ok(Answer::Flow(n, row)),
                 Err(e) => Ok(Answer::Refused(e)),
@@ -85,14 +84,15 @@ fn ask<E: FlowEngine>(
     }
 }
 
-// One call, given the places that it asks for, or all that there are.
+// One call, given the places that it asks for, or all that there are. Engine and workspace are two parameters throughout:
+// each call is given another part of the workspace, so that a struct of the two would be made anew for each.
 fn answer_call<E: FlowEngine>(
     heap: Global,
     engine: &mut E,
     call: &Call,
     work: &mut [E::Place],
 ) -> Result<Answer, AllocError>
-    ensures { IfOk result (λ a. Answers E.Engine.most E.FlowEngine.manner E.Metric.PathMetric.good E.Metric.PathMetric.start E.Metric.PathMetric.extended (min call.now.places (length work.old))
+    ensures { IfOk result (λ a. Answers E.Engine.MOST_JUNCTIONS E.FlowEngine.manner E.Metric.PathMetric.good E.Metric.PathMetric.start E.Metric.PathMetric.extended (min call.now.places (length work.old))
         (E.Engine.meaning engine.old) (E.FlowEngine.kept engine.old) call.now.request a (E.Engine.meaning engine.new) (E.FlowEngine.kept engine.new)) }
 {
     let places = call.places.min(work.len());
@@ -108,7 +108,7 @@ fn answer_calls<E: FlowEngine>(
     answers: &mut Vec<Answer>,
 ) -> Result<(), AllocError>
     requires { answers.old.items ≡ [] }
-    ensures begun { Begun E.Engine.most E.FlowEngine.manner E.Metric.PathMetric.good E.Metric.PathMetric.start E.Metric.PathMetric.extended (length work.old)
+    ensures begun { Begun E.Engine.MOST_JUNCTIONS E.FlowEngine.manner E.Metric.PathMetric.good E.Metric.PathMetric.start E.Metric.PathMetric.extended (length work.old)
         (E.Engine.meaning engine.old) (E.FlowEngine.kept engine.old) calls.now answers.new.items }
     ensures whole { OnOk result (length answers.new.items ≡ length calls.now) }
     ensures short { OnErr result (length answers.new.items < length calls.now) }
@@ -121,9 +121,10 @@ fn answer_calls<E: FlowEngine>(
 }
 
 // Calls on a new engine, each given the places that it asks for, or the whole workspace.
-// The answers are told of as many calls as there are answers; there is one for every call exactly where the run was not stopped.
+// The answers are told of as many calls as there are answers; there is one for every call exactly where the run was not
+// stopped.
 pub fn run<E: FlowEngine + Drop>(heap: Global, calls: &[Call], work: &mut [E::Place]) -> Ran
-    ensures faithful { Faithful E.Engine.most E.FlowEngine.manner E.Metric.PathMetric.good E.Metric.PathMetric.start E.Metric.PathMetric.extended (length work.old)
+    ensures faithful { Faithful E.Engine.MOST_JUNCTIONS E.FlowEngine.manner E.Metric.PathMetric.good E.Metric.PathMetric.start E.Metric.PathMetric.extended (length work.old)
         calls.now result.answers.items }
     ensures whole { result.stopped ≡ None → length result.answers.items ≡ length calls.now }
     ensures short { (result.stopped ≢ None) → length result.answers.items < length calls.now }
@@ -134,7 +135,8 @@ pub fn run<E: FlowEngine + Drop>(heap: Global, calls: &[Call], work: &mut [E::Pl
     Ran { answers, stopped }
 }
 
-// Two runs, on two new engines of one kind or of two. Each is as `run` says. Where they are asked the same, with as large workspaces and bounds, their answers agree.
+// Two runs, on two new engines of one kind or of two. Each is as `run` says. Where they are asked the same, with as
+// large workspaces and bounds, their answers agree.
 pub fn run_two<E: FlowEngine + Drop, F: FlowEngine + Drop>(
     heap: Global,
     calls: &[Call],
@@ -142,13 +144,13 @@ pub fn run_two<E: FlowEngine + Drop, F: FlowEngine + Drop>(
     others: &[Call],
     spare: &mut [F::Place],
 ) -> (Ran, Ran)
-    ensures one { Faithful E.Engine.most E.FlowEngine.manner E.Metric.PathMetric.good E.Metric.PathMetric.start E.Metric.PathMetric.extended (length work.old)
+    ensures one { Faithful E.Engine.MOST_JUNCTIONS E.FlowEngine.manner E.Metric.PathMetric.good E.Metric.PathMetric.start E.Metric.PathMetric.extended (length work.old)
         calls.now result.0.answers.items }
-    ensures other { Faithful F.Engine.most F.FlowEngine.manner F.Metric.PathMetric.good F.Metric.PathMetric.start F.Metric.PathMetric.extended (length spare.old)
+    ensures other { Faithful F.Engine.MOST_JUNCTIONS F.FlowEngine.manner F.Metric.PathMetric.good F.Metric.PathMetric.start F.Metric.PathMetric.extended (length spare.old)
         others.now result.1.answers.items }
-    ensures equal { EqualReports E.Engine.most (length work.old) calls.now result.0.answers.items
-        F.Engine.most (length spare.old) others.now result.1.answers.items }
-    ensures agree { E.Engine.most ≡ F.Engine.most → length work.old ≡ length spare.old → SameCalls calls.now others.now
+    ensures equal { EqualReports E.Engine.MOST_JUNCTIONS (length work.old) calls.now result.0.answers.items
+        F.Engine.MOST_JUNCTIONS (length spare.old) others.now result.1.answers.items }
+    ensures agree { E.Engine.MOST_JUNCTIONS ≡ F.Engine.MOST_JUNCTIONS → length work.old ≡ length spare.old → SameCalls calls.now others.now
         → AnswersAgree result.0.answers.items result.1.answers.items }
     ensures whole { result.0.stopped ≡ None → length result.0.answers.items ≡ length calls.now }
     ensures other_whole { result.1.stopped ≡ None → length result.1.answers.items ≡ length others.now }

@@ -168,7 +168,7 @@ schedule_missed pipes i bs =
     ∙ due_chain (codes "SCHD") 9 i bs _ _ (number_chain i 1 100 (field 0 (first_line bs)) then _ (steps_missed (number_or (field 0 (first_line bs))) pipes (i + 1) (i + number_or (field 0 (first_line bs)) + 1) (after_line bs) [] (omega arith)))
 
 refused_with : {A : Type 0} (r : Result A Refusal) (o : Option Refusal) (e : Refusal) → missed r ≡ o → (r ≡ Err e) ↔ (o ≡ Some e)
-refused_with (Ok x) o e h = ((λ p. absurd (let z : ◌≡◌ {A = ℕ} 0 1 = cc in omega arith)), (λ p. absurd (let z : ◌≡◌ {A = ℕ} 0 1 = cc in omega arith)))
+refused_with (Ok x) o e h = ((λ p. absurd cc), (λ p. absurd cc))
 refused_with (Err d) o e h = ((λ p. cc), (λ p. let q : d ≡ e = cc in ap (λ (x : Refusal). Err x) q))
 
 pub refusal_laws : RefusalLaws

@@ -2,6 +2,7 @@ pub mod FirstMissed
 pub mod LineTexts
 pub mod ReadBack
 pub mod Reading
+pub mod RepeatedLines
 pub mod ScheduleTexts
 pub mod SheetLaws
 pub mod SheetTexts

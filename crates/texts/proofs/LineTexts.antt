@@ -27,7 +27,7 @@ lacks_feed (b ∷ bs) = cond (in_line b) (lacks_feed bs) false
 
 kept_on : (x y : Bool) → cond x y false ≡ true → (x ≡ true) × (y ≡ true)
 kept_on true y e = (refl, e)
-kept_on false y e = absurd (let z : ◌≡◌ {A = ℕ} 0 1 = cc in omega arith)
+kept_on false y e = absurd cc
 
 pub feedless : (bs : List ℕ) → lacks_feed bs ≡ true → Feedless bs
 feedless [] e = tt
@@ -114,9 +114,9 @@ pub record Due (kind : List ℕ) (columns : ℕ) (bs l : List ℕ) : Type 0 wher
 
 pub tests : (x y z : Bool) (i : ℕ) (k l : List ℕ) → cond {A = Result (List ℕ) Refusal} (x && y) (cond z (Ok k) (Err (WrongKind i))) (Err (BadLine i)) ≡ Ok l → (x ≡ true) × (y ≡ true) × (z ≡ true) × (k ≡ l)
 tests true true true i k l e = (refl, refl, refl, cc)
-tests true true false i k l e = absurd (let z : ◌≡◌ {A = ℕ} 0 1 = cc in omega arith)
-tests true false z i k l e = absurd (let z : ◌≡◌ {A = ℕ} 0 1 = cc in omega arith)
-tests false y z i k l e = absurd (let z : ◌≡◌ {A = ℕ} 0 1 = cc in omega arith)
+tests true true false i k l e = absurd cc
+tests true false z i k l e = absurd cc
+tests false y z i k l e = absurd cc
 
 pub due_read : (kind : List ℕ) (columns i : ℕ) (bs l : List ℕ) → due kind columns i bs ≡ Ok l → Due kind columns bs l
 due_read kind columns i bs l e =
@@ -141,7 +141,7 @@ kind_read a b c d (w ∷ x ∷ y ∷ z ∷ l) h e =
 -- where nothing was missed, something was read first
 pub and_split : {A B : Type 0} (r : Result A Refusal) (f : A → Result B Refusal) (y : B) → and_then r f ≡ Ok y → (x : A) × ((r ≡ Ok x) × (f x ≡ Ok y))
 and_split (Ok x) f y e = (x, (refl, e))
-and_split (Err d) f y e = absurd (let z : ◌≡◌ {A = ℕ} 0 1 = cc in omega arith)
+and_split (Err d) f y e = absurd cc
 
 pub ok_both : {A B : Type 0} (a c : A) (b d : B) → ◌≡◌ {A = Result (A × B) Refusal} (Ok (a, b)) (Ok (c, d)) → (a ≡ c) × (b ≡ d)
 ok_both {A} {B} a c b d e =
@@ -151,14 +151,14 @@ ok_both {A} {B} a c b d e =
 -- a number in its field
 pub number_written : (i k least most : ℕ) (bs : List ℕ) (v : ℕ) → take 5 (drop (4 + 5 * k) bs) ≡ written 5 v → least ≤ v → v ≤ most → v ≤ 60000 → Ok v ≡ number_at i k least most bs
 number_written i k least most bs v e h l b =
-    inside bs k i least most 5 refl v (sym (ap number_in e ∙ read_back 5 v (omega arith) (omega arith) (omega arith))) h l
+    inside bs k i least most v (sym (ap number_in e ∙ read_back 5 v (omega arith) (omega arith) (omega arith))) h l
 
 -- and read
 abbrev pub Number : ℕ → ℕ → ℕ → List ℕ → ℕ → Type 0
 Number k least most bs v = (take 5 (drop (4 + 5 * k) bs) ≡ written 5 v) × (least ≤ v) × (v ≤ most)
 
 pub ranged_read : (i least most : ℕ) (o : Option ℕ) (v : ℕ) → ranged i least most o ≡ Ok v → (o ≡ Some v) × (least ≤ v) × (v ≤ most)
-ranged_read i least most None v e = absurd (let z : ◌≡◌ {A = ℕ} 0 1 = cc in omega arith)
+ranged_read i least most None v e = absurd cc
 ranged_read i least most (Some n) v e = go (leb least n && leb n most) refl e
   where
     go : (b : Bool) → (leb least n && leb n most) ≡ b → cond {A = Result ℕ Refusal} b (Ok n) (Err (OutOfRange i)) ≡ Ok v → (Some n ≡ Some v) × (least ≤ v) × (v ≤ most)
@@ -167,7 +167,7 @@ ranged_read i least most (Some n) v e = go (leb least n && leb n most) refl e
         let a : least ≤ n = grind (arith, nat_tests) in
         let c : n ≤ most = grind (arith, nat_tests) in
         (ap (λ (x : ℕ). Some x) q, omega arith, omega arith)
-    go false t f = absurd (let z : ◌≡◌ {A = ℕ} 0 1 = cc in omega arith)
+    go false t f = absurd cc
 
 pub number_read : (i k least most : ℕ) (bs : List ℕ) (v : ℕ) → 4 + 5 * k + 5 ≤ length bs → number_at i k least most bs ≡ Ok v → Number k least most bs v
 number_read i k least most bs v h e =

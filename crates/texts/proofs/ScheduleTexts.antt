@@ -1,5 +1,5 @@
 -- Schedules are read as they are written.
-use Rattle.std.proofs.Common.{◌≡◌, ℕ, zero, suc, ◌+◌, ◌≤◌, Bool, true, false, cond, ◌&&◌, eqb, ◌↔◌, List, [], ◌∷◌, ◌++◌, length, take, drop, is_some, Ok, Err, codes, Result, sym, refl, ap, ◌∙◌, subst, append_assoc, arith, length-append}
+use Rattle.std.proofs.Common.{◌≡◌, ℕ, suc, ◌+◌, ◌≤◌, Bool, true, false, cond, ◌&&◌, eqb, ◌↔◌, List, [], ◌∷◌, ◌++◌, length, take, drop, is_some, Ok, Err, codes, Result, sym, refl, ap, ◌∙◌, subst, append_assoc, arith, length-append}
 use Rattle.std.specs.List.{flat_map, AllByRecursion}
 use Rattle.std.proofs.lemmas.Bool.Decides.{nat_tests}
 use Rattle.std.proofs.lemmas.List.{append-nil, length-drop, nil_from_length}
@@ -14,7 +14,8 @@ use Rattle.formats.specs.Schedules.{Timed, SoundStep, step_in, next_step_in, ste
 use Rattle.formats.specs.Written.{count_columns, step_columns, step_line, schedule_of}
 use Rattle.formats.proofs.Lengths.{length_written}
 use Rattle.formats.proofs.Numbers.{and_ok}
-use Rattle.texts.proofs.LineTexts.{Feedless, feedless, feedless_then, written_feedless, line_then, line_after, due_written, due_read, kind_read, and_split, ok_both, number_written, number_read, field_first, field_past, one_field_split}
+use Rattle.texts.proofs.RepeatedLines.{lines_written, lines_read}
+use Rattle.texts.proofs.LineTexts.{Feedless, feedless, feedless_then, written_feedless, line_after, due_written, due_read, kind_read, and_split, number_written, number_read, field_first, field_past, one_field_split}
 
 -- the line with the number of steps
 module _ (n : ℕ) where
@@ -39,14 +40,14 @@ module _ (n : ℕ) where
 
 all_true : (x y : Bool) → (x && y) ≡ true → (x ≡ true) × (y ≡ true)
 all_true true y e = (refl, e)
-all_true false y e = absurd (let z : ◌≡◌ {A = ℕ} 0 1 = cc in omega arith)
+all_true false y e = absurd cc
 
 -- a line feed is no letter of a pattern
 pattern_feedless : (ls : List ℕ) → is_pattern ls ≡ true → Feedless ls
 pattern_feedless [] e = tt
 pattern_feedless (b ∷ ls) e =
     let k = all_true (is_some (setting_of b)) (is_pattern ls) e in
-    ((λ q. absurd (let f : false ≡ true = subst (λ (x : ℕ). is_some (setting_of x) ≡ true) q k.0 in let z : ◌≡◌ {A = ℕ} 0 1 = cc in omega arith)), pattern_feedless ls k.1)
+    ((λ q. absurd (let f : false ≡ true = subst (λ (x : ℕ). is_some (setting_of x) ≡ true) q k.0 in cc)), pattern_feedless ls k.1)
 
 module _ (s : Timed) where
   step_kind : of_kind (codes "STEP") (step_columns s) ≡ true
@@ -81,17 +82,8 @@ module _ (s : Timed) where
     next_step_written : (more : List ℕ) → next_step_in pipes i (step_columns s ++ 10 ∷ more) ≡ Ok s
     next_step_written more = and_ok _ (step_columns s) _ (sym (due_written (step_columns s) more step_feedless (codes "STEP") (9 + pipes) i step_long step_kind)) ∙ step_written
 
-steps_written : (ss qs : List Timed) (pipes i : ℕ) (more : List ℕ) → AllByRecursion (SoundStep pipes) ss → steps_in (length ss) pipes i (flat_map step_line ss ++ more) qs ≡ Ok (qs ++ ss, more)
-steps_written [] qs pipes i more h = ap (λ (x : List Timed). Ok (x, more)) (sym (append-nil qs))
-steps_written (s ∷ ss) qs pipes i more (h, hs) =
-    let rest = flat_map step_line ss ++ more in
-    let bs = step_columns s ++ 10 ∷ rest in
-    let f : Timed → Result (List Timed × List ℕ) Refusal = λ q. steps_in (length ss) pipes (i + 1) (after_line bs) (qs ++ q ∷ []) in
-    ap (λ (x : List ℕ). steps_in (suc (length ss)) pipes i x qs) (line_then (step_columns s) (flat_map step_line ss) more)
-    ∙ and_ok (next_step_in pipes i bs) s f (sym (next_step_written s pipes i h rest))
-    ∙ ap (λ (x : List ℕ). steps_in (length ss) pipes (i + 1) x (qs ++ s ∷ [])) (line_after (step_columns s) rest (step_feedless s pipes i h))
-    ∙ steps_written ss (qs ++ s ∷ []) pipes (i + 1) more hs
-    ∙ ap (λ (x : List Timed). Ok (x, more)) (append_assoc qs (s ∷ []) ss)
+steps_written : (ss : List Timed) (pipes i : ℕ) (more : List ℕ) → AllByRecursion (SoundStep pipes) ss → steps_in (length ss) pipes i (flat_map step_line ss ++ more) [] ≡ Ok (ss, more)
+steps_written ss pipes i more h = lines_written (next_step_in pipes) step_columns (SoundStep pipes) (λ s q. step_feedless s pipes i q) (λ s j rest q. next_step_written s pipes j q rest) ss [] i more h
 
 -- written, then read
 pub schedule_written : (pipes i : ℕ) (ss : List Timed) → SoundSchedule pipes ss → schedule_in pipes i (schedule_of ss) ≡ Ok ss
@@ -104,12 +96,12 @@ schedule_written pipes i ss sound =
     ap (schedule_in pipes i) (append_assoc (count_columns n) (10 ∷ []) rest)
     ∙ and_ok (next_count_in i bs) n _ (sym (next_count_written n i rest sound.some sound.few))
     ∙ ap (λ (x : List ℕ). and_then (steps_in n pipes (i + 1) x []) done) (line_after (count_columns n) rest (count_feedless n) ∙ sym (append-nil rest))
-    ∙ ap (λ r. and_then r done) (steps_written ss [] pipes (i + 1) [] sound.steps)
+    ∙ ap (λ r. and_then r done) (steps_written ss pipes (i + 1) [] sound.steps)
 
 -- letters that were read
 lettered : (t : Bool) (i : ℕ) (s u : Timed) → cond {A = Result Timed Refusal} t (Ok s) (Err (WrongLetter i)) ≡ Ok u → (t ≡ true) × (s ≡ u)
 lettered true i s u e = (refl, cc)
-lettered false i s u e = absurd (let z : ◌≡◌ {A = ℕ} 0 1 = cc in omega arith)
+lettered false i s u e = absurd cc
 
 step_read : (pipes i : ℕ) (l : List ℕ) (s : Timed) → length l ≡ 9 + pipes → of_kind (codes "STEP") l ≡ true → step_in i l ≡ Ok s → (l ≡ step_columns s) × SoundStep pipes s
 unfolding step_columns
@@ -124,33 +116,12 @@ step_read pipes i l s long kind e =
     let sound : SoundStep pipes u = record { some = n₁.1; few = n₁.2; long = omega arith; patterned = r.0 } in
     subst (λ (x : Timed). (l ≡ step_columns x) × SoundStep pipes x) r.1 (is, sound)
 
--- step lines that were read
-record Stepped (pipes k : ℕ) (bs : List ℕ) (ss qs : List Timed) (rest : List ℕ) : Type 0 where
-  new : List Timed
-  all : qs ≡ ss ++ new
-  counted : length new ≡ k
-  is : bs ≡ flat_map step_line new ++ rest
-  sound : AllByRecursion (SoundStep pipes) new
-
-steps_read : (k pipes i : ℕ) (bs : List ℕ) (ss qs : List Timed) (rest : List ℕ) → steps_in k pipes i bs ss ≡ Ok (qs, rest) → Stepped pipes k bs ss qs rest
-steps_read zero pipes i bs ss qs rest e =
-    let f = ok_both ss qs bs rest e in
-    record { new = []; all = sym f.0 ∙ sym (append-nil ss); counted = refl; is = f.1; sound = tt }
-steps_read (suc k) pipes i bs ss qs rest e =
-    let s = and_split (next_step_in pipes i bs) _ (qs, rest) e in
-    let p = s.0 in
-    let t = and_split (due (codes "STEP") (9 + pipes) i bs) (step_in i) p s.1.0 in
-    let l = t.0 in
-    let d = due_read (codes "STEP") (9 + pipes) i bs l t.1.0 in
-    let c = step_read pipes i l p d.long d.kinded t.1.1 in
-    let r = steps_read k pipes (i + 1) (after_line bs) (ss ++ p ∷ []) qs rest s.1.1 in
-    record {
-      new = p ∷ r.new;
-      all = r.all ∙ append_assoc ss (p ∷ []) r.new;
-      counted = ap suc r.counted;
-      is = d.is ∙ (λ x. c.0 x ++ 10 ∷ r.is x) ∙ sym (line_then (step_columns p) (flat_map step_line r.new) rest);
-      sound = (c.1, r.sound);
-    }
+next_step_read : (pipes i : ℕ) (bs : List ℕ) (s : Timed) → next_step_in pipes i bs ≡ Ok s → (bs ≡ step_columns s ++ 10 ∷ after_line bs) × SoundStep pipes s
+next_step_read pipes i bs s e =
+    let t = and_split (due (codes "STEP") (9 + pipes) i bs) (step_in i) s e in
+    let d = due_read (codes "STEP") (9 + pipes) i bs t.0 t.1.0 in
+    let c = step_read pipes i t.0 s d.long d.kinded t.1.1 in
+    (d.is ∙ ap (λ (l : List ℕ). l ++ 10 ∷ after_line bs) c.0, c.1)
 
 count_read : (i : ℕ) (l : List ℕ) (n : ℕ) → length l ≡ 9 → of_kind (codes "SCHD") l ≡ true → number_at i 0 1 100 l ≡ Ok n → (l ≡ count_columns n) × (1 ≤ n) × (n ≤ 100)
 unfolding count_columns
@@ -164,7 +135,7 @@ count_read i l n long kind e =
 -- no byte was left
 ended_read : (bs : List ℕ) (i : ℕ) (ss qs : List Timed) → cond {A = Result (List Timed) Refusal} (eqb (length bs) 0) (Ok ss) (Err (TrailingBytes i)) ≡ Ok qs → (bs ≡ []) × (ss ≡ qs)
 ended_read [] i ss qs e = (refl, cc)
-ended_read (b ∷ bs) i ss qs e = absurd (let t : eqb (suc (length bs)) 0 ≡ false = grind (arith, nat_tests) in let f = ap (λ (x : Bool). cond {A = Result (List Timed) Refusal} x (Ok ss) (Err (TrailingBytes i))) t in let z : ◌≡◌ {A = ℕ} 0 1 = cc in omega arith)
+ended_read (b ∷ bs) i ss qs e = absurd (let t : eqb (suc (length bs)) 0 ≡ false = grind (arith, nat_tests) in let f = ap (λ (x : Bool). cond {A = Result (List Timed) Refusal} x (Ok ss) (Err (TrailingBytes i))) t in cc)
 
 -- read, then written
 pub schedule_read : (pipes i : ℕ) (bs : List ℕ) (ss : List Timed) → schedule_in pipes i bs ≡ Ok ss → SoundSchedule pipes ss × (bs ≡ schedule_of ss)
@@ -178,7 +149,7 @@ schedule_read pipes i bs ss e =
     let c = count_read i l n d.long d.kinded t.1.1 in
     let q = and_split (steps_in n pipes (i + 1) (after_line bs) []) _ ss s.1.1 in
     let r = q.0 in
-    let p = steps_read n pipes (i + 1) (after_line bs) [] r.0 r.1 q.1.0 in
+    let p = lines_read (next_step_in pipes) step_columns (SoundStep pipes) (next_step_read pipes) n (i + 1) (after_line bs) [] r.0 r.1 q.1.0 in
     let f = ended_read r.1 (i + n + 1) r.0 ss q.1.1 in
     let same : p.new ≡ ss = sym p.all ∙ f.1 in
     let few = c.2 in
@@ -206,8 +177,7 @@ module _ (pipes : ℕ) where
     (λ p ss a e.
         let r : schedule_in pipes i bs ≡ Ok ss = ap (schedule_in pipes i) e ∙ schedule_written pipes i ss a in
         let q = p.1 in
-        let z : ◌≡◌ {A = ℕ} 0 1 = cc in
-        absurd (omega arith)),
+        absurd cc),
     (λ h. none_left i bs h (schedule_in pipes i bs) refl),
   )
 

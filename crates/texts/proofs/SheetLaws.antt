@@ -35,8 +35,7 @@ module _ (most : ℕ) (held : most ≤ 64) where
     (λ p w more a e.
         let r : sheet_in most i bs ≡ Ok (w, more) = ap (sheet_in most i) e ∙ written_read w a i more in
         let q = p.1 in
-        let z : ◌≡◌ {A = ℕ} 0 1 = cc in
-        absurd (omega arith)),
+        absurd cc),
     (λ h. none_left i bs h (sheet_in most i bs) refl),
   )
 

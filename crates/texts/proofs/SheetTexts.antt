@@ -1,8 +1,9 @@
 -- Sheets are read as they are written.
-use Rattle.std.proofs.Common.{◌≡◌, ℕ, zero, suc, ◌+◌, ◌-◌, ◌≤◌, Bool, true, false, cond, ◌&&◌, eqb, ◌≢◌, List, [], ◌∷◌, ◌++◌, length, get_or, take, drop, Some, None, Ok, Err, codes, Result, sym, refl, ap, ◌∙◌, subst, inl, inr, append_assoc, arith}
+use Rattle.std.proofs.Common.{◌≡◌, ℕ, ◌+◌, ◌-◌, ◌≤◌, Bool, true, false, cond, ◌&&◌, eqb, ◌≢◌, List, [], ◌∷◌, ◌++◌, length, get_or, take, drop, Some, None, Ok, Err, codes, Result, sym, refl, ap, ◌∙◌, subst, inl, inr, arith}
+use Rattle.std.proofs.ByRecursion.{All-weaker}
 use Rattle.std.specs.List.{flat_map, AllByRecursion}
 use Rattle.std.proofs.lemmas.Bool.Decides.{nat_tests, eqb_tells}
-use Rattle.std.proofs.lemmas.List.{take_all, append-nil, get_or-drop, length-drop}
+use Rattle.std.proofs.lemmas.List.{take_all, get_or-drop, length-drop}
 use Rattle.network.specs.declared.valve.Valve.{Valve}
 use Rattle.network.specs.declared.valve.Valve.TheVariants.{Open, Closed}
 use Rattle.network.specs.Network.{Pipe, Network, Joins, Limited, Wired, Sound}
@@ -17,6 +18,7 @@ use Rattle.formats.specs.Written.{valve_letter, header_columns, pipe_columns, pi
 use Rattle.formats.proofs.Lengths.{length_written}
 use Rattle.formats.proofs.Numbers.{and_ok}
 use Rattle.formats.proofs.Lengths.{header_long, pipe_long}
+use Rattle.texts.proofs.RepeatedLines.{lines_written, lines_read}
 use Rattle.texts.proofs.LineTexts.{Feedless, feedless, feedless_then, written_feedless, line_then, line_after, due_written, due_read, kind_read, and_split, ok_both, number_written, number_read, field_first, field_past, fields_split}
 
 -- the fields of the line of a network
@@ -136,17 +138,15 @@ module _ (p : Pipe) where
     next_pipe_written : (more : List ℕ) → next_pipe_in n i (pipe_columns p ++ 10 ∷ more) ≡ Ok p
     next_pipe_written more = and_ok _ (pipe_columns p) _ (sym (due_written (pipe_columns p) more pipe_feedless (codes "PIPE") 24 i (pipe_long p) pipe_kind)) ∙ pipe_written
 
-pipes_written : (ps qs : List Pipe) (n i : ℕ) (more : List ℕ) → n ≤ 64 → AllByRecursion (Joins n) ps → AllByRecursion Limited ps → pipes_in (length ps) n i (flat_map pipe_line ps ++ more) qs ≡ Ok (qs ++ ps, more)
-pipes_written [] qs n i more h j l = ap (λ (x : List Pipe). Ok (x, more)) (sym (append-nil qs))
-pipes_written (p ∷ ps) qs n i more h (j, js) (l, ls) =
-    let rest = flat_map pipe_line ps ++ more in
-    let bs = pipe_columns p ++ 10 ∷ rest in
-    let f : Pipe → Result (List Pipe × List ℕ) Refusal = λ q. pipes_in (length ps) n (i + 1) (after_line bs) (qs ++ q ∷ []) in
-    ap (λ (x : List ℕ). pipes_in (suc (length ps)) n i x qs) (line_then (pipe_columns p) (flat_map pipe_line ps) more)
-    ∙ and_ok (next_pipe_in n i bs) p f (sym (next_pipe_written p n i h j l rest))
-    ∙ ap (λ (x : List ℕ). pipes_in (length ps) n (i + 1) x (qs ++ p ∷ [])) (line_after (pipe_columns p) rest (pipe_feedless p))
-    ∙ pipes_written ps (qs ++ p ∷ []) n (i + 1) more h js ls
-    ∙ ap (λ (x : List Pipe). Ok (x, more)) (append_assoc qs (p ∷ []) ps)
+abbrev Piped : ℕ → Pipe → Type 0
+Piped n p = Joins n p × Limited p
+
+piped : (n : ℕ) (ps : List Pipe) → AllByRecursion (Joins n) ps → AllByRecursion Limited ps → AllByRecursion (Piped n) ps
+piped n [] j l = tt
+piped n (p ∷ ps) (j, js) (l, ls) = ((j, l), piped n ps js ls)
+
+pipes_written : (ps : List Pipe) (n i : ℕ) (more : List ℕ) → n ≤ 64 → AllByRecursion (Piped n) ps → pipes_in (length ps) n i (flat_map pipe_line ps ++ more) [] ≡ Ok (ps, more)
+pipes_written ps n i more h all = lines_written (next_pipe_in n) pipe_columns (Piped n) (λ p q. pipe_feedless p) (λ p j rest q. next_pipe_written p n j h q.0 q.1 rest) ps [] i more all
 
 -- written, then read
 pub sheet_written : (most i : ℕ) (w : Network) (more : List ℕ) → Sound w → w.junctions ≤ most → sheet_in most i (sheet_of w ++ more) ≡ Ok (w, more)
@@ -158,14 +158,14 @@ sheet_written most i w more sound few =
     ap (sheet_in most i) (line_then (header_columns w) (flat_map pipe_line w.pipes) more)
     ∙ and_ok (header_in most i bs) (fields_of w) _ (sym (header_in_written w most i sound few rest))
     ∙ ap (λ (x : List ℕ). and_then (pipes_in (length w.pipes) w.junctions (i + 1) x []) built) (line_after (header_columns w) rest (header_feedless w))
-    ∙ ap (λ r. and_then r built) (pipes_written w.pipes [] w.junctions (i + 1) more sound.most sound.wired.joins sound.limited)
+    ∙ ap (λ r. and_then r built) (pipes_written w.pipes w.junctions (i + 1) more sound.most (piped w.junctions w.pipes sound.wired.joins sound.limited))
 
 -- two ends that were found different
 pub ends_read : {A : Type 0} (a b i : ℕ) (x y : A) → cond {A = Result A Refusal} (eqb a b) (Err (SameEnds i)) (Ok x) ≡ Ok y → (a ≢ b) × (x ≡ y)
 ends_read {A} a b i x y e = go (eqb a b) refl e
   where
     go : (t : Bool) → eqb a b ≡ t → cond {A = Result A Refusal} t (Err (SameEnds i)) (Ok x) ≡ Ok y → (a ≢ b) × (x ≡ y)
-    go true p f = absurd (let z : ◌≡◌ {A = ℕ} 0 1 = cc in omega arith)
+    go true p f = absurd cc
     go false p f = ((λ q. absurd (grind (arith, nat_tests))), cc)
 
 -- the line of a network, as its fields say
@@ -204,13 +204,13 @@ letter_read i b v e =
       | inl p ↦ subst (λ (x : Valve). b ≡ valve_letter x) (let q : Open ≡ v = let f = ap (λ (t : Bool). lettered i (cond t (Some Open) (cond (eqb b 67) (Some Closed) None))) p.0 in cc in q) p.1
       | inr p ↦ elim (eqb_tells b 67) [
         | inl z ↦ subst (λ (x : Valve). b ≡ valve_letter x) (let q : Closed ≡ v = let f = ap (λ (t : Bool). lettered i (cond t (Some Open) (cond (eqb b 67) (Some Closed) None))) p.0 in let g = ap (λ (t : Bool). lettered i (cond t (Some Closed) None)) z.0 in cc in q) z.1
-        | inr z ↦ absurd (let q : ◌≡◌ {A = ℕ} 0 1 = let f = ap (λ (t : Bool). lettered i (cond t (Some Open) (cond (eqb b 67) (Some Closed) None))) p.0 in let g = ap (λ (t : Bool). lettered i (cond t (Some Closed) None)) z.0 in cc in omega arith)
+        | inr z ↦ absurd (let f = ap (λ (t : Bool). lettered i (cond t (Some Open) (cond (eqb b 67) (Some Closed) None))) p.0 in let g = ap (λ (t : Bool). lettered i (cond t (Some Closed) None)) z.0 in cc)
       ]
     ]
 
 filled : (t : Bool) (i : ℕ) (r : Result Valve Refusal) (v : Valve) → cond t r (Err (BadNumber i)) ≡ Ok v → (t ≡ true) × (r ≡ Ok v)
 filled true i r v e = (refl, e)
-filled false i r v e = absurd (let z : ◌≡◌ {A = ℕ} 0 1 = cc in omega arith)
+filled false i r v e = absurd cc
 
 tail_read : (i : ℕ) (t : List ℕ) (v : Valve) → length t ≡ 5 → tail_in i t ≡ Ok v → t ≡ tail_of v
 tail_read i [] v h e = absurd (omega arith)
@@ -251,35 +251,12 @@ pipe_read n i l p some long kind e =
     let limited : Limited q = record { some = n₃.1; few = n₃.2 } in
     subst (λ (x : Pipe). (l ≡ pipe_columns x) × Joins n x × Limited x) r.1 (is, joins, limited)
 
--- pipe lines that were read
-record Piped (n k : ℕ) (bs : List ℕ) (ps qs : List Pipe) (rest : List ℕ) : Type 0 where
-  new : List Pipe
-  all : qs ≡ ps ++ new
-  counted : length new ≡ k
-  is : bs ≡ flat_map pipe_line new ++ rest
-  joins : AllByRecursion (Joins n) new
-  limited : AllByRecursion Limited new
-
-pipes_read : (k n i : ℕ) (bs : List ℕ) (ps qs : List Pipe) (rest : List ℕ) → 1 ≤ n → pipes_in k n i bs ps ≡ Ok (qs, rest) → Piped n k bs ps qs rest
-pipes_read zero n i bs ps qs rest some e =
-    let f = ok_both ps qs bs rest e in
-    record { new = []; all = sym f.0 ∙ sym (append-nil ps); counted = refl; is = f.1; joins = tt; limited = tt }
-pipes_read (suc k) n i bs ps qs rest some e =
-    let s = and_split (next_pipe_in n i bs) _ (qs, rest) e in
-    let p = s.0 in
-    let t = and_split (due (codes "PIPE") 24 i bs) (pipe_in n i) p s.1.0 in
-    let l = t.0 in
-    let d = due_read (codes "PIPE") 24 i bs l t.1.0 in
-    let c = pipe_read n i l p some d.long d.kinded t.1.1 in
-    let r = pipes_read k n (i + 1) (after_line bs) (ps ++ p ∷ []) qs rest some s.1.1 in
-    record {
-      new = p ∷ r.new;
-      all = r.all ∙ append_assoc ps (p ∷ []) r.new;
-      counted = ap suc r.counted;
-      is = d.is ∙ (λ x. c.0 x ++ 10 ∷ r.is x) ∙ sym (line_then (pipe_columns p) (flat_map pipe_line r.new) rest);
-      joins = (c.1, r.joins);
-      limited = (c.2, r.limited);
-    }
+next_pipe_read : (n i : ℕ) (bs : List ℕ) (p : Pipe) → 1 ≤ n → next_pipe_in n i bs ≡ Ok p → (bs ≡ pipe_columns p ++ 10 ∷ after_line bs) × Piped n p
+next_pipe_read n i bs p some e =
+    let t = and_split (due (codes "PIPE") 24 i bs) (pipe_in n i) p e in
+    let d = due_read (codes "PIPE") 24 i bs t.0 t.1.0 in
+    let c = pipe_read n i t.0 p some d.long d.kinded t.1.1 in
+    (d.is ∙ ap (λ (l : List ℕ). l ++ 10 ∷ after_line bs) c.0, (c.1, c.2))
 
 -- read, then written
 pub sheet_read : (most i : ℕ) (bs : List ℕ) (w : Network) (more : List ℕ) → most ≤ 64 → sheet_in most i bs ≡ Ok (w, more) → (bs ≡ sheet_of w ++ more) × Sound w × (w.junctions ≤ most)
@@ -294,13 +271,16 @@ sheet_read most i bs w more few e =
     let a = c.1 in
     let q = and_split (pipes_in h.pipes h.junctions (i + 1) (after_line bs) []) _ (w, more) s.1.1 in
     let r = q.0 in
-    let p = pipes_read h.pipes h.junctions (i + 1) (after_line bs) [] r.0 r.1 (omega arith) q.1.0 in
+    let some : 1 ≤ h.junctions = omega arith in
+    let p = lines_read (next_pipe_in h.junctions) pipe_columns (Piped h.junctions) (λ j b x z. next_pipe_read h.junctions j b x some z) h.pipes (i + 1) (after_line bs) [] r.0 r.1 q.1.0 in
+    let joins = All-weaker (Piped h.junctions) (Joins h.junctions) (λ x z. z.0) p.new p.sound in
+    let limited = All-weaker (Piped h.junctions) Limited (λ x z. z.1) p.new p.sound in
     let u : Network = record { junctions = h.junctions; pump = h.pump; outlet = h.outlet; pipes = p.new } in
     let both = ok_both (record { junctions = h.junctions; pump = h.pump; outlet = h.outlet; pipes = r.0 }) w r.1 more q.1.1 in
     let same : u ≡ w = ap (λ (x : List Pipe). record { junctions = h.junctions; pump = h.pump; outlet = h.outlet; pipes = x }) (sym p.all) ∙ both.0 in
     let head : l ≡ header_columns u = c.0 ∙ ap (λ (n : ℕ). codes "NETW" ++ (written 5 h.junctions ++ (written 5 n ++ (written 5 h.pump ++ written 5 h.outlet)))) (sym p.counted) in
     let is : bs ≡ sheet_of u ++ r.1 = d.is ∙ (λ x. head x ++ 10 ∷ p.is x) ∙ sym (line_then (header_columns u) (flat_map pipe_line p.new) r.1) in
-    let wired : Wired u = record { pump_in = a.3; outlet_in = a.4; apart = a.5; joins = p.joins } in
+    let wired : Wired u = record { pump_in = a.3; outlet_in = a.4; apart = a.5; joins = joins } in
     let held = p.counted in
-    let sound : Sound u = record { wired = wired; two = a.0; most = omega arith; held = omega arith; limited = p.limited } in
+    let sound : Sound u = record { wired = wired; two = a.0; most = omega arith; held = omega arith; limited = limited } in
     subst (λ (x : Network). (bs ≡ sheet_of x ++ more) × Sound x × (x.junctions ≤ most)) same (is ∙ ap (λ (x : List ℕ). sheet_of u ++ x) both.1, sound, a.1)

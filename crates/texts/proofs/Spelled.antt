@@ -22,8 +22,8 @@ placed pre m u c p q d =
 
 both : (x y : Bool) (r : Option ℕ) (n : ℕ) → cond x (cond y r None) None ≡ Some n → (x ≡ true) × (r ≡ Some n)
 both true true r n e = (refl, e)
-both true false r n e = absurd (let z : ◌≡◌ {A = ℕ} 0 1 = cc in omega arith)
-both false y r n e = absurd (let z : ◌≡◌ {A = ℕ} 0 1 = cc in omega arith)
+both true false r n e = absurd cc
+both false y r n e = absurd cc
 
 regroup : (pre : List ℕ) (b : ℕ) (bs : List ℕ) → (pre ++ b ∷ []) ++ bs ≡ pre ++ b ∷ bs
 regroup pre b bs = append_assoc pre (b ∷ []) bs
@@ -66,11 +66,11 @@ zero_alone [] pre n p e =
     let q : 0 ≡ n = cc in
     let l : suc (length pre) ≡ length (pre ++ 48 ∷ []) = omega (arith, length-append pre (48 ∷ [])) in
     ap (λ (x : List ℕ). x ++ 48 ∷ []) p ∙ ap (written (suc (length pre))) q ∙ ap (λ (k : ℕ). written k n) l
-zero_alone (b ∷ bs) pre n p e = absurd (let z : ◌≡◌ {A = ℕ} 0 1 = cc in omega arith)
+zero_alone (b ∷ bs) pre n p e = absurd cc
 
 -- the blanks so far, and the rest of the field
 rest_spelled : (bs pre : List ℕ) (n : ℕ) → pre ≡ padded (length pre) 0 → number_in bs ≡ Some n → pre ++ bs ≡ written (length (pre ++ bs)) n
-rest_spelled [] pre n p e = absurd (let z : ◌≡◌ {A = ℕ} 0 1 = cc in omega arith)
+rest_spelled [] pre n p e = absurd cc
 rest_spelled (b ∷ bs) pre n p e =
     elim (eqb_tells b 32) [
       | inl q ↦ subst (λ (l : List ℕ). l ≡ written (length l) n) (regroup pre b bs)

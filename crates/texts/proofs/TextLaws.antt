@@ -16,7 +16,7 @@ use Rattle.texts.proofs.ScheduleTexts.{schedule_written, schedule_read}
 use Rattle.texts.proofs.SheetLaws.{sheet_laws}
 
 never : {A : Type 0} (r : Result A Refusal) (x : A) (e : Refusal) → r ≡ Ok x → r ≡ Err e → ⊥
-never r x e p q = let z : ◌≡◌ {A = ℕ} 0 1 = cc in omega arith
+never r x e p q = cc
 
 -- as many pipes as lines, and what is behind those
 pipes_after : (k n i : ℕ) (bs : List ℕ) (ps qs : List Pipe) (rest : List ℕ) → pipes_in k n i bs ps ≡ Ok (qs, rest) → (length qs ≡ length ps + k) × (rest ≡ after_lines k bs)

@@ -1,6 +1,7 @@
 ghost use Rattle.std.specs.Prelude.{◌≤◌};
 
-// How much there is to rate.
+// How much there is to rate. The steps themselves are in the array that the caller lent, and only their number is here:
+// firmware has no heap for them.
 #[derive(Clone, Copy)]
 pub struct Extent {
     pub steps: usize,

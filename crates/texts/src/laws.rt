@@ -15,7 +15,8 @@ pub fn sheets_differ()
     ensures { (w u : Network) → Sound w → Sound u → OneSheet w u }
 {}
 
-// A text is accepted as a schedule exactly when it is the schedule of those steps; two lists of steps have different schedules.
+// A text is accepted as a schedule exactly when it is the schedule of those steps; two lists of steps have different
+// schedules.
 pub fn schedules_read_back()
     ensures { (pipes : ℕ) → ScheduleLaws pipes }
 {}

@@ -12,7 +12,8 @@ use formats::refusal::Refusal;
 use formats::schedule::TimedPattern;
 use network::table::Table;
 
-// In both calls `most` is the most junctions that the caller takes. A table holds 64, and every engine is proved to take no more.
+// In both calls `most` is the most junctions that the caller takes. A table holds 64, and every engine is proved to take
+// no more.
 
 // The network of the sheet that a text begins with, with dry pipes, and how many bytes the sheet has.
 pub fn read_sheet(text: &[u8], most: usize) -> Result<(Table, usize), Refusal>
@@ -34,7 +35,8 @@ pub fn read_sheet(text: &[u8], most: usize) -> Result<(Table, usize), Refusal>
     Ok((table, reader.at))
 }
 
-// Reads the whole text, a sheet and a schedule, whose steps go into the first elements; the elements beyond stay. The answer is how much there is to rate.
+// Reads the whole text, a sheet and a schedule, whose steps go into the first elements; the elements beyond stay. The
+// answer is how much there is to rate.
 pub fn read_text<'a>(
     text: &'a [u8],
     most: usize,

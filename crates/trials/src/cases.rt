@@ -1,64 +1,80 @@
-ghost use Rattle.std.specs.Prelude.{◌≤◌, length};
+ghost use Rattle.std.specs.Prelude.{◌≡◌, ◌+◌, ◌==◌, if◌then◌else◌, length};
+ghost use Rattle.std.specs.Iterator.{at_most};
+ghost use Rattle.trials.specs.declared.cases.Mark.TheVariants.{Whole, Cut, Plain};
 
-// A case begins with a line `#`, a mark and its name: the text behind it is to be rated, up to the next such line.
-// The mark `+` asks for the page in full, `-` leaves out the last byte of the text, and a blank does neither.
+use formats::lines::LINE_FEED;
+
+// What a case asks for beside its text: `+` the page in full, `-` a text without its last byte, and another letter neither.
+#[derive(Clone, Copy, PartialEq, Eq)]
+pub enum Mark {
+    Whole,
+    Cut,
+    Plain,
+}
+
+impl From<u8> for Mark {
+    ghost from_gives = { λ letter mark. mark ≡ (if letter == 43 then Whole else (if letter == 45 then Cut else Plain)) };
+
+    fn from(letter: u8) -> Mark {
+        match letter {
+            b'+' => Mark::Whole,
+            b'-' => Mark::Cut,
+            _ => Mark::Plain,
+        }
+    }
+}
+
+// A case begins with a line `#`, a mark, a blank and its name: the text behind it is to be rated, up to the next line
+// that begins with `#`.
 #[derive(Clone, Copy)]
 pub struct Case<'a> {
+    pub mark: Mark,
     pub name: &'a [u8],
     pub text: &'a [u8],
-    pub whole: bool,
-    pub end: usize,
 }
 
-// Where the line at `at` ends, behind its line feed.
-fn line_end(text: &[u8], at: usize) -> usize
-    requires { at ≤ length text.now }
-    ensures { (at ≤ result) × (result ≤ length text.now) }
+// The cases of a text, up to the first line that begins none.
+#[derive(Drop)]
+pub struct Cases<'a> {
+    rest: &'a [u8],
+}
+
+impl<'a> Cases<'a> {
+    pub(crate) fn new(text: &'a [u8]) -> Cases<'a> {
+        Cases { rest: text }
+    }
+}
+
+// A text split behind the byte at a place, or at its end where there is no such byte.
+fn split_behind<'a>(text: &'a [u8], place: Option<usize>) -> (&'a [u8], &'a [u8])
+    ensures { length result.0.now + length result.1.now ≡ length text.now }
 {
-    for i in at..text.len() {
-        if text[i] == b'\n' {
-            return i + 1;
-        }
+    match place {
+        Some(place) if place < text.len() => text.split_at(place + 1),
+        _ => text.split_at(text.len()),
     }
-    text.len()
 }
 
-// Where the lines up to the next case end.
-fn case_end(text: &[u8], at: usize) -> usize
-    requires { at ≤ length text.now }
-    ensures { (at ≤ result) × (result ≤ length text.now) }
-{
-    let mut stop = at;
-    for _ in at..text.len() {
-        if stop == text.len() || text[stop] == b'#' {
-            return stop;
-        }
-        stop = line_end(text, stop);
-    }
-    stop
-}
+impl<'a> Iterator for Cases<'a> {
+    type Item = Case<'a>;
 
-// The case that begins at `at`.
-pub(crate) fn next_case(text: &[u8], at: usize) -> Option<Case<'_>> {
-    if at >= text.len() {
-        return None;
+    ghost remaining = { λ s. at_most (length s.rest.now) };
+
+    fn next(&mut self) -> Option<Case<'a>> {
+        // a case ends behind the line feed before the next `#`
+        let end = self.rest.windows(2).position(|pair| matches!(pair, b"\n#"));
+        let (case, rest) = split_behind(self.rest, end);
+        let feed = case.iter().position(|byte| *byte == LINE_FEED);
+        let (head, body) = split_behind(case, feed);
+        let [_, letter, _, name @ .., _] = head else {
+            return None;
+        };
+        self.rest = rest;
+        let mark = Mark::from(*letter);
+        let text = match body {
+            [text @ .., _] if mark == Mark::Cut => text,
+            _ => body,
+        };
+        Some(Case { mark, name, text })
     }
-    let body = line_end(text, at);
-    let end = case_end(text, body);
-    if body < at + 4 {
-        return None;
-    }
-    let mark = text[at + 1];
-    let name = &text[at + 3..body - 1];
-    let cut = if mark == b'-' && end > body {
-        end - 1
-    } else {
-        end
-    };
-    Some(Case {
-        name,
-        text: &text[body..cut],
-        whole: mark == b'+',
-        end,
-    })
 }

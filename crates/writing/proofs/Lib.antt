@@ -1,4 +1,3 @@
-pub mod Digits
 pub mod PageLines
 pub mod Puts
 pub mod SheetLines

@@ -1,11 +1,8 @@
 -- Writing over a space, piece by piece.
-use Rattle.std.proofs.Common.{◌≡◌, ℕ, ◌+◌, ◌-◌, ◌<◌, ◌≤◌, true, List, [], ◌∷◌, ◌++◌, length, get_or, take, drop, set, is_ok, Ok, Err, Result, sym, refl, ap, ◌∙◌, subst, append_assoc, arith, length-append}
+use Rattle.std.proofs.Common.{◌≡◌, ℕ, ◌+◌, ◌-◌, ◌<◌, ◌≤◌, List, [], ◌∷◌, ◌++◌, length, get_or, take, drop, set, sym, ap, ◌∙◌, append_assoc, arith, length-append}
 use borrow.Rule.Slice.PartMut.{put_mid}
 use Rattle.std.proofs.lemmas.List.{take_at, drop_at, take-append-drop, length-take-le, drop-drop, drop_more, set-append_right}
-use Rattle.formats.specs.declared.refusal.Refusal.{Refusal}
-use Rattle.formats.specs.Fields.{written}
-use Rattle.formats.specs.Spaces.{put_at, Put}
-use Rattle.formats.proofs.Lengths.{length_written}
+use Rattle.formats.specs.Spaces.{put_at}
 
 module _ (s : List ℕ) (at : ℕ) (inside : at ≤ length s) where
   pub put_none : put_at at [] s ≡ s
@@ -52,15 +49,7 @@ unfolding put_at
 put_part s bs ys at k e f =
     (λ i. take at s ++ (f i ++ drop (e i) (drop at s))) ∙ ap (λ (l : List ℕ). take at s ++ (bs ++ l)) (drop-drop (length bs) at s)
 
-pub put_written : (s : List ℕ) (from to v : ℕ) → from ≤ to → take from s ++ (written (to - from) v ++ drop to s) ≡ put_at from (written (to - from) v) s
+-- and to write the front
+pub put_front : (s bs ys : List ℕ) (n : ℕ) → n ≡ length bs → ys ≡ bs → ys ++ drop n s ≡ put_at 0 bs s
 unfolding put_at
-put_written s from to v h =
-    ap (λ (n : ℕ). take from s ++ (written (to - from) v ++ drop n s)) (let q : to ≡ from + length (written (to - from) v) = omega (arith, length_written (to - from) v) in q)
-
--- bytes that fit are not refused
-pub put_fits : (at : ℕ) (bs before : List ℕ) (r : Result ℕ Refusal) (after : List ℕ) → Put at bs before r after → at + length bs ≤ length before → is_ok r ≡ true
-put_fits at bs before (Ok n) after p h = refl
-put_fits at bs before (Err e) after p h = absurd (let l = p.1 in omega arith)
-
-pub put_ok : (at : ℕ) (bs before : List ℕ) (r : Result ℕ Refusal) (after : List ℕ) (n : ℕ) → Put at bs before r after → r ≡ Ok n → (n ≡ at + length bs) × (after ≡ put_at at bs before)
-put_ok at bs before r after n p e = let q = subst (λ (x : Result ℕ Refusal). Put at bs before x after) e p in (q.1, q.2)
+put_front s bs ys n e f = let behind : n ≡ 0 + length bs = omega arith in λ i. f i ++ drop (behind i) s

@@ -1,25 +1,31 @@
-ghost use Rattle.std.specs.Prelude.{◌≡◌, ◌-◌, ◌<◌, ◌≤◌, length};
-ghost use Rattle.formats.specs.Fields.{written};
-ghost use Rattle.formats.specs.Spaces.{put_at};
+ghost use Rattle.std.specs.Prelude.{◌≡◌, length};
+ghost use Rattle.formats.specs.Fields.{padded, written};
 
 use formats::fields::BLANK;
 
-// Writes a number into the columns from `from` up to `to`, right-justified, with blanks to the left.
-pub fn put_number(space: &mut [u8], from: usize, to: usize, value: u64)
-    requires from_lt_to { from < to }
-    requires to_in_bounds { to ≤ length space.old }
-    ensures { space.new ≡ put_at from (written (to - from) value) space.old }
+// Writes a number into a field, right-justified, with blanks to the left.
+#[tactic(auto, unfolding(formats::specs::Fields::written))]
+pub fn put_number(field: &mut [u8], value: u64)
+    ensures { field.new ≡ written (length field.old) value }
 {
-    let mut k = to - 1;
-    space[k] = b'0' + (value % 10) as u8;
-    let mut rest = value / 10;
-    while k > from {
-        k -= 1;
-        space[k] = if rest == 0 {
-            BLANK
-        } else {
-            b'0' + (rest % 10) as u8
-        };
-        rest /= 10;
-    }
+    let Some((last, front)) = field.split_last_mut() else {
+        return;
+    };
+    *last = b'0' + (value % 10) as u8;
+    put_tens(front, value / 10);
+}
+
+// Writes what is left of a number's last digit, from the right: its other digits, and blanks where it has no more.
+fn put_tens(front: &mut [u8], tens: u64)
+    ensures { front.new ≡ padded (length front.old) tens }
+{
+    let Some((last, left)) = front.split_last_mut() else {
+        return;
+    };
+    *last = if tens == 0 {
+        BLANK
+    } else {
+        b'0' + (tens % 10) as u8
+    };
+    put_tens(left, tens / 10);
 }

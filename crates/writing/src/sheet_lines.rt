@@ -1,30 +1,23 @@
-ghost use Rattle.std.specs.Prelude.{◌≡◌, ◌+◌, ◌≤◌, length};
+ghost use Rattle.std.specs.Prelude.{◌≡◌, length};
 ghost use Rattle.network.specs.Pipes.{pipe_of, network_of};
-ghost use Rattle.formats.specs.Spaces.{put_at, Put};
+ghost use Rattle.formats.specs.Spaces.{Put};
 ghost use Rattle.formats.specs.Written.{valve_letter, header_line, pipe_line, sheet_of};
 
 use crate::fields::put_number;
-use crate::page::{KIND_END, put_bytes};
+use formats::fields::{BLANK, FIELD_COLUMNS, KIND_COLUMNS, SHEET_COLUMNS};
 use formats::refusal::Refusal;
 use network::row::Row;
-use network::table::Table;
+use network::table::{MOST_PIPES, Table};
 use network::valve::Valve;
 
 // The bytes of a line, with its line feed.
-const LINE_BYTES: usize = 25;
+pub const LINE_BYTES: usize = SHEET_COLUMNS + 1;
 
-// Where the fields of a line end, and the blanks before a valve's letter.
-const FIRST_END: usize = 9;
+// The bytes of the longest sheet.
+pub const MOST_SHEET: usize = LINE_BYTES * (1 + MOST_PIPES);
 
-const SECOND_END: usize = 14;
-
-const THIRD_END: usize = 19;
-
-const BLANKS_END: usize = 23;
-
-const FOURTH_END: usize = 24;
-
-// O for an open valve, C for a closed one.
+// O for an open valve, C for a closed one. The letter is the sheet's, and the crate of valves knows no sheets, so it is
+// no `From` there.
 fn letter_of_valve(valve: Valve) -> u8
     ensures { result ≡ valve_letter valve }
 {
@@ -34,34 +27,48 @@ fn letter_of_valve(valve: Valve) -> u8
     }
 }
 
-// The NETW line, at the front of the space.
-fn put_header(space: &mut [u8], table: &Table)
-    requires { 25 ≤ length space.old }
-    ensures { space.new ≡ put_at 0 (header_line (network_of table.now)) space.old }
+// These functions fill a slice that is one line long with that line.
+
+// The NETW line.
+#[tactic(auto, using(formats::proofs::Lengths::table_length), unfolding(formats::specs::Written::header_columns))]
+fn fill_header(line: &mut [u8], table: &Table)
+    requires { length line.old ≡ 25 }
+    ensures { line.new ≡ header_line (network_of table.now) }
 {
-    put_bytes(space, 0, b"NETW");
-    put_number(space, KIND_END, FIRST_END, table.junctions as u64);
-    put_number(space, FIRST_END, SECOND_END, table.count as u64);
-    put_number(space, SECOND_END, THIRD_END, table.pump as u64);
-    put_number(space, THIRD_END, FOURTH_END, table.outlet as u64);
-    put_bytes(space, FOURTH_END, b"\n");
+    let (kind, rest) = line.split_at_mut(KIND_COLUMNS);
+    let (junctions, rest) = rest.split_at_mut(FIELD_COLUMNS);
+    let (pipes, rest) = rest.split_at_mut(FIELD_COLUMNS);
+    let (pump, rest) = rest.split_at_mut(FIELD_COLUMNS);
+    let (outlet, end) = rest.split_at_mut(FIELD_COLUMNS);
+    kind.copy_from_slice(b"NETW");
+    put_number(junctions, table.junctions as u64);
+    put_number(pipes, table.count as u64);
+    put_number(pump, table.pump as u64);
+    put_number(outlet, table.outlet as u64);
+    end.copy_from_slice(b"\n");
 }
 
 // A PIPE line.
-fn put_pipe(space: &mut [u8], at: usize, row: &Row)
-    requires { at + 25 ≤ length space.old }
-    ensures { space.new ≡ put_at at (pipe_line (pipe_of row.now)) space.old }
+#[tactic(auto, unfolding(formats::specs::Written::pipe_columns))]
+fn fill_pipe(line: &mut [u8], row: &Row)
+    requires { length line.old ≡ 25 }
+    ensures { line.new ≡ pipe_line (pipe_of row.now) }
 {
-    put_bytes(space, at, b"PIPE");
-    put_number(space, at + KIND_END, at + FIRST_END, row.from as u64);
-    put_number(space, at + FIRST_END, at + SECOND_END, row.to as u64);
-    put_number(space, at + SECOND_END, at + THIRD_END, row.limit as u64);
-    put_bytes(space, at + THIRD_END, b"    ");
-    space[at + BLANKS_END] = letter_of_valve(row.valve);
-    put_bytes(space, at + FOURTH_END, b"\n");
+    let (kind, rest) = line.split_at_mut(KIND_COLUMNS);
+    let (from, rest) = rest.split_at_mut(FIELD_COLUMNS);
+    let (to, rest) = rest.split_at_mut(FIELD_COLUMNS);
+    let (limit, rest) = rest.split_at_mut(FIELD_COLUMNS);
+    let (valve, end) = rest.split_at_mut(FIELD_COLUMNS);
+    kind.copy_from_slice(b"PIPE");
+    put_number(from, row.from as u64);
+    put_number(to, row.to as u64);
+    put_number(limit, row.limit as u64);
+    valve.copy_from_slice(&[BLANK, BLANK, BLANK, BLANK, letter_of_valve(row.valve)]);
+    end.copy_from_slice(b"\n");
 }
 
-// The sheet of a table's network, at the front of the space. The answer is its length; where it does not fit, the space stays as it was.
+// The sheet of a table's network, at the front of the space. The answer is its length; where it does not fit, the space
+// stays as it was.
 pub fn try_put_sheet(space: &mut [u8], table: &Table) -> Result<usize, Refusal>
     ensures { Put 0 (sheet_of (network_of table.now)) space.old result space.new }
 {
@@ -69,9 +76,13 @@ pub fn try_put_sheet(space: &mut [u8], table: &Table) -> Result<usize, Refusal>
     if space.len() < length {
         return Err(Refusal::LittleSpace);
     }
-    put_header(space, table);
-    for k in 0..table.count {
-        put_pipe(space, LINE_BYTES * (1 + k), &table.rows[k]);
+    fill_header(&mut space[..LINE_BYTES], table);
+    // Each line is taken at its place: `chunks_exact_mut`, zipped with the rows, was tried, and left nothing known of
+    // the space.
+    let rows = table.pipe_rows();
+    for (k, row) in rows.iter().enumerate() {
+        let at = LINE_BYTES * (1 + k);
+        fill_pipe(&mut space[at..at + LINE_BYTES], row);
     }
     Ok(length)
 }

@@ -2,17 +2,18 @@ use crate::page::{try_put_fail, try_put_governing, try_put_rate, try_put_total};
 use formats::refusal::Refusal;
 use network::report::Report;
 
+const REPORT: Report = Report {
+    value: 50,
+    near: 1,
+    far: 7,
+};
+
 // Each line where it just fits behind two bytes, and where one byte is wanting: then nothing is written.
 
 #[test]
 fn lines_that_fit(rt: HostRuntime) {
-    let report = Report {
-        value: 50,
-        near: 1,
-        far: 7,
-    };
     let mut rate = [b'-'; 25];
-    assert!(rt; try_put_rate(&mut rate, 2, 1, &report, 4) == Ok(25));
+    assert!(rt; try_put_rate(&mut rate, 2, 1, &REPORT, 4) == Ok(25));
     assert!(rt; rate.as_slice() == b"--RATE    1       50NBBD\n".as_slice());
     let mut governing = [b'-'; 17];
     let marks = [false, false, false, false, true];
@@ -28,14 +29,9 @@ fn lines_that_fit(rt: HostRuntime) {
 
 #[test]
 fn lines_that_do_not_fit(rt: HostRuntime) {
-    let report = Report {
-        value: 50,
-        near: 1,
-        far: 7,
-    };
     let refused = Err(Refusal::LittleSpace);
     let mut rate = [b'-'; 24];
-    assert!(rt; try_put_rate(&mut rate, 2, 1, &report, 4) == refused);
+    assert!(rt; try_put_rate(&mut rate, 2, 1, &REPORT, 4) == refused);
     assert!(rt; rate == [b'-'; 24]);
     let mut governing = [b'-'; 16];
     let marks = [false, false, false, false, true];

@@ -1,25 +1,9 @@
 use Rattle.std.proofs.Common.{◌<◌, sym, ◌∙◌, arith}
 use Rattle.std.proofs.lemmas.Nat.{one_shl}
 use Rattle.network.specs.Pipes.{network_of, flow_of}
-use Rattle.paths.proofs.Tables.{sound_read}
 use Rattle.augmenting.proofs.Closures.{ends_in, spread_none, crosses, stays_light, stays_out}
 use Rattle.augmenting.proofs.survey.cross.Goals as goal
 use Rattle.augmenting.proofs.survey.cross.Goals.{else-weight-gt0-via-then-weight-gt0+else-holds, else-weight-gt0-via-else-weight-gt0}
-
-pub weight_of-weight-requires : goal.weight_of-weight-requires
-weight_of-weight-requires c = sound_read c.args.table.now c.args.step.pipe c.requires
-
-pub holds-requires : goal.holds-requires
-holds-requires c =
-    let e = ends_in c.args.table.now c.args.sense c.args.step c.requires in
-    let m = c.args.table.now.most in
-    omega (arith, e.0, c.ends_of-near.ensures.near)
-
-pub overflow_shl-result : goal.overflow_shl-result
-overflow_shl-result c =
-    let e = ends_in c.args.table.now c.args.sense c.args.step c.requires in
-    let m = c.args.table.now.most in
-    omega (arith, e.1, c.ends_of-near.ensures.far)
 
 pub returns-then-holds : goal.returns-then-holds
 returns-then-holds c =

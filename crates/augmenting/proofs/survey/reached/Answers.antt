@@ -25,17 +25,3 @@ returns-then-grown-seen c =
     let i = c.loop-seen.invariant in
     closure_is c.args.sense (network_of t) (flow_of t) c.args.start c.loop-seen.seen i.0 i.1 i.2
     (subst (λ (s : ℕ). (st : Step) → Crossed c.args.sense (network_of t) (flow_of t) c.loop-seen.seen s st) c.if-grown-seen.true c.round-grown.ensures.crossed)
-
-pub loop-seen-smaller : goal.loop-seen-smaller
-loop-seen-smaller c =
-    let x = c.round-grown.ensures.spread in
-    let l = x.inside c.loop-seen.invariant.0 in
-    let g = x.grows in
-    let d = c.if-grown-seen.false in
-    omega arith
-
-pub loop-seen-preserved : goal.loop-seen-preserved
-loop-seen-preserved c =
-    let x = c.round-grown.ensures.spread in
-    let i = c.loop-seen.invariant in
-    (x.inside i.0, x.keeps c.args.start i.1, x.from c.args.start i.2)

@@ -1,54 +1,34 @@
-use Rattle.std.proofs.Common.{sym, refl, ◌∙◌, w64, SFits, rules}
-use Rattle.compare_engines.proofs.Agreeing.{at, differ, loaded, not_loaded, changed, not_changed, reported, not_reported, governs, not_governs, sheets, other_sheets, not_sheet, flows, not_flow, refused, not_refused}
+use Rattle.std.proofs.Common.{◌≡◌, Decides, w64, SFits, rules}
+use Rattle.std.proofs.lemmas.Bool.Decides.{Decides-eqb}
+use Rattle.std.proofs.lemmas.Slice.Eq.{slice_eq-Decides}
+use Rattle.compare_engines.proofs.Agreeing.{at, loaded, changed, reported, governs, sheets, flows, refused}
 use Rattle.compare_engines.proofs.agree.agree.Goals as goal
 
-pub returns-in-Loaded-other : goal.returns-in-Loaded-other
-returns-in-Loaded-other c = at _ _ _ _ _ c.in-Loaded.is c.in-Loaded-other.is (loaded _ _)
+pub returns-in-Loaded-Loaded : goal.returns-in-Loaded-Loaded
+returns-in-Loaded-Loaded c = at _ _ _ _ _ c.in-Loaded-Loaded.is-0 c.in-Loaded-Loaded.is-1 (loaded _ _)
 
-pub returns-in_default : goal.returns-in_default
-returns-in_default c = at _ _ _ _ _ c.in-Loaded.is refl (differ _ (not_loaded _ c.in_default.not-Loaded))
+pub returns-in-Changed-Changed : goal.returns-in-Changed-Changed
+returns-in-Changed-Changed c =
+    let one : SFits w64 c.in-Changed-Changed.d = search rules in
+    let other : SFits w64 c.in-Changed-Changed.e = search rules in
+    at _ _ _ _ _ c.in-Changed-Changed.is-0 c.in-Changed-Changed.is-1 (changed _ _ _ _ one other)
 
-pub returns-in-Changed-other : goal.returns-in-Changed-other
-returns-in-Changed-other c =
-    let one : SFits w64 c.in-Changed.d = search rules in
-    let other : SFits w64 c.in-Changed-other.e = search rules in
-    at _ _ _ _ _ c.in-Changed.is c.in-Changed-other.is (changed _ _ _ _ one other)
+pub returns-in-Reported-Reported : goal.returns-in-Reported-Reported
+returns-in-Reported-Reported c =
+    let same : Decides c.eq.result (c.in-Reported-Reported.r ≡ c.in-Reported-Reported.s) = search rules in
+    at _ _ _ _ _ c.in-Reported-Reported.is-0 c.in-Reported-Reported.is-1 (reported _ _ _ same)
 
-pub returns-in_default-other : goal.returns-in_default-other
-returns-in_default-other c = at _ _ _ _ _ c.in-Changed.is refl (differ _ (not_changed _ c.in_default-other.not-Changed))
-
-pub returns-in-Reported-other : goal.returns-in-Reported-other
-returns-in-Reported-other c = at _ _ _ _ _ c.in-Reported.is c.in-Reported-other.is (reported _ _ _ c.same_report.ensures)
-
-pub returns-in_default-other-2 : goal.returns-in_default-other-2
-returns-in_default-other-2 c = at _ _ _ _ _ c.in-Reported.is refl (differ _ (not_reported _ c.in_default-other-2.not-Reported))
-
-pub returns-in-Governs-other : goal.returns-in-Governs-other
-returns-in-Governs-other c = at _ _ _ _ _ c.in-Governs.is c.in-Governs-other.is (governs _ _)
-
-pub returns-in_default-other-3 : goal.returns-in_default-other-3
-returns-in_default-other-3 c = at _ _ _ _ _ c.in-Governs.is refl (differ _ (not_governs _ c.in_default-other-3.not-Governs))
+pub returns-in-Governs-Governs : goal.returns-in-Governs-Governs
+returns-in-Governs-Governs c = at _ _ _ _ _ c.in-Governs-Governs.is-0 c.in-Governs-Governs.is-1 (governs _ _)
 
 pub returns-then-m-n : goal.returns-then-m-n
 returns-then-m-n c =
-    let one = c.deref.ensures.value in
-    let other = c.deref-then-m-n.ensures.value in
-    at _ _ _ _ _ c.in-Sheet.is c.in-Sheet-other.is (sheets _ _ _ _ _ c.if-m-n.true (λ t. sym one ∙ c.same_bytes.ensures.0 t ∙ other, λ t. c.same_bytes.ensures.1 (one ∙ t ∙ sym other)))
+    at _ _ _ _ _ c.in-Sheet-Sheet.is-0 c.in-Sheet-Sheet.is-1 (sheets _ _ _ _ _ c.if-m-n.true (slice_eq-Decides Decides-eqb _ _ _ c.eq-then-m-n.ensures))
 
-pub returns-else-m-n : goal.returns-else-m-n
-returns-else-m-n c = at _ _ _ _ _ c.in-Sheet.is c.in-Sheet-other.is (other_sheets _ _ _ _ c.if-m-n.false)
+pub returns-in-Flow-Flow : goal.returns-in-Flow-Flow
+returns-in-Flow-Flow c = at _ _ _ _ _ c.in-Flow-Flow.is-0 c.in-Flow-Flow.is-1 (flows _ _ _ _)
 
-pub returns-in_default-other-4 : goal.returns-in_default-other-4
-returns-in_default-other-4 c = at _ _ _ _ _ c.in-Sheet.is refl (differ _ (not_sheet _ c.in_default-other-4.not-Sheet))
-
-pub returns-in-Flow-other : goal.returns-in-Flow-other
-returns-in-Flow-other c = at _ _ _ _ _ c.in-Flow.is c.in-Flow-other.is (flows _ _ _ _)
-
-pub returns-in_default-other-5 : goal.returns-in_default-other-5
-returns-in_default-other-5 c = at _ _ _ _ _ c.in-Flow.is refl (differ _ (not_flow _ c.in_default-other-5.not-Flow))
-
-pub returns-in-Refused-other : goal.returns-in-Refused-other
-returns-in-Refused-other c = at _ _ _ _ _ c.in-Refused.is c.in-Refused-other.is (refused _ _ _ c.same_refusal.ensures)
-
-pub returns-in_default-other-6 : goal.returns-in_default-other-6
-returns-in_default-other-6 c = at _ _ _ _ _ c.in-Refused.is refl (differ _ (not_refused _ c.in_default-other-6.not-Refused))
+pub returns-in-Refused-Refused : goal.returns-in-Refused-Refused
+returns-in-Refused-Refused c =
+    let same : Decides c.eq-in-Refused-Refused.result (c.in-Refused-Refused.e ≡ c.in-Refused-Refused.f) = search rules in
+    at _ _ _ _ _ c.in-Refused-Refused.is-0 c.in-Refused-Refused.is-1 (refused _ _ _ same)

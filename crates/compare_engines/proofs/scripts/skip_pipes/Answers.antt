@@ -1,4 +1,4 @@
-use Rattle.std.proofs.Common.{◌≡◌, ℕ, ◌+◌, ◌-◌, sym, ap, ◌∙◌, arith}
+use Rattle.std.proofs.Common.{◌≡◌, ◌+◌, ◌-◌, sym, ap, ◌∙◌, arith}
 use Rattle.formats.specs.Readers.{rest}
 use Rattle.formats.specs.declared.reader.Reader.{Reader}
 use Rattle.compare_engines.specs.Scripts.{behind_pipes}
@@ -27,9 +27,3 @@ loop-passed-preserved c =
           ∙ pass_one (c.args.most - c.loop-passed.passed) _ (rest c.loop-passed.reader) (omega (arith, c.loop-passed-test.true)) (sym c.if-not-pipe_follows.ensures) e.0 ∙ c.loop-passed.invariant.0,
       e.3.same_text ∙ c.loop-passed.invariant.1,
     )
-
-pub returns : goal.returns
-returns c = record {
-  moved = ap (λ (m : ℕ). behind_pipes m c.loop-passed.reader.lines (rest c.loop-passed.reader)) (let z : 0 ≡ c.args.most - c.loop-passed.passed = omega (arith, c.loop-passed-test.false) in z) ∙ c.loop-passed.invariant.0;
-  same_text = c.loop-passed.invariant.1;
-}

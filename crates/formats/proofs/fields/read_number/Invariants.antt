@@ -1,9 +1,9 @@
-use Rattle.std.proofs.Common.{◌≡◌, ◌-◌, ◌≤◌, length, drop}
+use Rattle.std.proofs.Common.{◌≡◌, length}
 use Rattle.formats.specs.Fields.{number_in}
 use Rattle.formats.proofs.fields.read_number.Given as goal
 
-abbrev pub invariant-loop-i : goal.invariant-loop-i
-invariant-loop-i l = (l.i ≤ length l.field) × (number_in (drop l.i l.field) ≡ number_in l.field)
+abbrev pub invariant-loop-rest : goal.invariant-loop-rest
+invariant-loop-rest l = number_in l.rest ≡ number_in l.fn.field
 
-abbrev pub decreases-loop-i : goal.decreases-loop-i
-decreases-loop-i l = length l.field - l.i
+abbrev pub decreases-loop-rest : goal.decreases-loop-rest
+decreases-loop-rest l = length l.rest

@@ -6,4 +6,4 @@ use Rattle.formats.specs.Written.{pipe_line}
 use Rattle.writing.proofs.sheet_lines.try_put_sheet.Given as goal
 
 abbrev pub invariant-loop-k : goal.invariant-loop-k
-invariant-loop-k l = l.space ≡ put_at 25 (flat_map pipe_line (map pipe_of (take l.k l.table.rows))) l.initial.space
+invariant-loop-k l = l.space ≡ put_at 25 (flat_map pipe_line (map pipe_of (take l.k l.rows))) l.initial.space
