@@ -46,8 +46,7 @@ impl<'a, M: PathMetric> Augmenter<'a, M> {
 
     // Mends a flow that lost an amount on the way between two junctions: leads it by other ways,
     // then what remains back to the pump and from the outlet. The answer is the number of augmentations.
-    // Its bound is a clause of each caller too, up to where such numbers are added: a type for it would only be taken
-    // off there.
+    // Callers repeat the bound until the counts are added: a bounded type would be unwrapped there at once.
     pub fn mend(&mut self, from: usize, to: usize, lost: u32) -> u32
         requires from { from < self.old.table.junctions }
         requires to { to < self.old.table.junctions }

@@ -56,6 +56,7 @@ impl<'a, M: PathMetric> GreatestFlow<'a, M> {
         ensures few { result ≤ 92160000 }
     {
         let mut count = 0;
+        // By the pipe's number: what lowers a pipe changes the row of that number.
         for (k, letter) in letters.iter().enumerate() {
             count += self.close_by(k, *letter);
         }

@@ -15,9 +15,8 @@ use network::table::Table;
 use network::valve::Valve;
 
 // Pipe k gets this limit and this valve, and carries this flow.
-// That k is a pipe of this table is a clause here too, as of an Augmenter. A limit in range is two clauses wherever one
-// is set:
-// rows and records have plain numbers, so that a type for it would be made and taken apart at each row.
+// That k is a pipe of this table is a clause here too, as of an Augmenter. A limit in range is two clauses wherever one is
+// set: rows and records have plain numbers, so that a type for it would be made and taken apart at each row.
 pub fn change_row(table: &mut Table, k: usize, limit: u32, valve: Valve, flow: u32)
     requires inside { k < table.old.count }
     requires some { 1 ≤ limit }
@@ -62,7 +61,7 @@ pub fn set_valves(table: &mut Table, letters: &[u8])
     ensures network { network_of table.new ≡ patterned (network_of table.old) letters.now }
     ensures flow { flow_of table.new ≡ flow_of table.old }
 {
-    // By the pipe's number: of rows that are zipped with the letters, nothing is known behind the loop.
+    // By the pipe's number: rows zipped with the letters were tried, and left nothing known behind the loop.
     for (k, letter) in letters.iter().enumerate() {
         let row = table.rows[k];
         change_row(

@@ -36,10 +36,9 @@ pub fn value(table: &Table) -> u32
 }
 
 // The ends of a step over this pipe: the one from which a set spreads in this sense, and the one that it spreads to.
-// The sense is a value and no closure for the ends: `cross`, `round` and `reached` would each have to require of the
-// closure what these two clauses say. The residual graph turns two ends round by the same two arms, which say so plainer
-// than a function over pairs.
-fn ends_of(row: &Row, direction: Direction, sense: Direction) -> (usize, usize)
+// The sense is a value: with a closure in its place, `cross`, `round` and `reached` would each require of it what these two
+// clauses say. The residual graph turns two ends round by the same two arms, which say so plainer than a function over pairs.
+fn near_and_far(row: &Row, direction: Direction, sense: Direction) -> (usize, usize)
     ensures near { result.0 ≡ near_by sense direction (pipe_of row.now) }
     ensures far { result.1 ≡ far_by sense direction (pipe_of row.now) }
 {
@@ -59,7 +58,7 @@ fn cross(table: &Table, step: Step, sense: Direction, seen: u64) -> u64
 {
     let row = table.rows[step.pipe];
     let weight = weight_of(&row, step.direction);
-    let (near, far) = ends_of(&row, step.direction, sense);
+    let (near, far) = near_and_far(&row, step.direction, sense);
     if weight > 0 && holds(seen, near) {
         seen | (1 << far)
     } else {

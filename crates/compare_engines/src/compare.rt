@@ -42,8 +42,8 @@ fn run_four(heap: Global, script: &Script) -> Four
 }
 
 impl Four {
-    // What they answered to a call, counted from 0, if all four answered it: each call is, unless there was no memory
-    // for an answer.
+    // What they answered to a call, counted from 0, if all four answered it: each call is answered, unless there was
+    // no memory for an answer.
     pub(crate) fn told(&self, call: usize) -> Option<Told<'_>>
         ensures { MatchOption result (answered self.now ≤ call) (TellsEach self.now call) }
     {
@@ -60,7 +60,7 @@ impl Four {
         ensures only { result ≡ None → EachAgrees self.now }
         ensures all { EachAgrees self.now → result ≡ None }
     {
-        // By the call's number, since four lists are asked at once.
+        // By the call's number, since four lists are asked at once, and zips of four would be taken apart as pairs of pairs.
         for (call, _) in self.warm_fewest.answers.iter().enumerate() {
             let Some(told) = self.told(call) else {
                 return None;

@@ -1,6 +1,5 @@
-// What a line of a script asks for. It is no `Request` of runs: it holds no bytes yet (letters are read off the line
-// itself),
-// and it knows workspace places and schedules.
+// What a line of a script asks for. It is no `Request` of runs: it holds no bytes yet, since letters are read off the line
+// itself, and it knows workspace places and schedules.
 #[derive(Clone, Copy)]
 pub enum Order {
     // A sheet, with at most so many PIPE lines behind its first.

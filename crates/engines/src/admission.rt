@@ -167,7 +167,7 @@ impl Settled {
         if row.len() < pipes.len() {
             return Err(Refusal::LittleSpace);
         }
-        // By the pipe's number: of a row that is zipped with the pipes, nothing is known behind the loop.
+        // By the pipe's number: the row zipped with the pipes was tried, and left nothing known behind the loop.
         for (k, pipe) in pipes.iter().enumerate() {
             row[k] = pipe.flow;
         }

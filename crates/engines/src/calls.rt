@@ -16,6 +16,8 @@ use paths::label::Label;
 use paths::metric::PathMetric;
 use std::marker::PhantomData;
 
+// A call that changes the network is admitted, and carried out in the engine's manner: two lines each, since a function over
+// both steps would take two closures and state the contracts of both.
 impl<M: PathMetric, K: Keeping> Engine for FlowKeeper<M, K> {
     const MOST_JUNCTIONS: usize = MOST_JUNCTIONS;
 

@@ -65,9 +65,9 @@ impl Keeping for Warm {
         letters: &[u8],
         work: &mut [Label<M>],
     ) -> (i64, u32) {
-        let mut mending = settled.mending(work);
-        let closing = mending.close_marked(letters);
-        let mut table = mending.augmenter.table;
+        let mut repair = settled.mending(work);
+        let closing = repair.close_marked(letters);
+        let mut table = repair.augmenter.table;
         set_valves(&mut table, letters);
         let (change, filling) = settled.refill(table, work);
         (change, closing + filling)

@@ -8,7 +8,7 @@ pub struct Line<'a> {
 }
 
 // Goes through a text line by line; `at` bytes and `lines` lines have been read.
-// A slice of what is left in place of `text` and `at` would not bound the number of lines that have been read.
+// A slice of what is left in place of `text` and `at` would leave `lines + 1` without a bound.
 #[derive(Drop)]
 pub struct Reader<'a> {
     pub text: &'a [u8],

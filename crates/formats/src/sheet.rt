@@ -194,6 +194,7 @@ impl Reader<'_> {
             pump,
             outlet,
         } = self.read_line(&HeaderLine { most })?;
+        // No heap: rows for the most pipes, of which those of the sheet are filled.
         let mut rows = [Row::UNUSED; MOST_PIPES];
         self.fill(&PipeLine { junctions }, &mut rows[..pipes])?;
         Ok(Table {

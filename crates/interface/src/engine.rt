@@ -40,8 +40,8 @@ pub trait Engine {
           | Err e ↦ (loading MOST_JUNCTIONS (length work.old) text.now ≡ Err e) × (self.new ≡ self.old) × (work.new ≡ work.old)
         ] };
 
-    // The valve of a closed pipe opens. The answer is a pair: the change of the greatest value, and the number of
-    // augmentations.
+    // The valve of a closed pipe opens. The answer is a pair, which callers take apart at once: the change of the greatest
+    // value, and the number of augmentations.
     fn open(&mut self, pipe: usize, work: &mut [Self::Place]) -> Result<(i64, u32), Refusal>
         ensures { Changes meaning counted (opening MOST_JUNCTIONS (length work.old) (meaning self.old) pipe) (opened pipe) self.old self.new work.old work.new result };
 

@@ -6,7 +6,8 @@ use crate::widest::Widest;
 use std::cmp::Reverse;
 
 // The number of pipes and the smallest weight: fewer pipes are better, then the greater weight.
-// No way is the worst. An Option of the two would be ordered alike, but it is no type of this crate, and a metric is one.
+// No way is the worst. An Option of the two would be ordered alike, but then every Option of such a pair would be a metric,
+// and None would not say that it is the worst length.
 #[derive(Clone, Copy, PartialEq, Eq, PartialOrd, Ord, Debug)]
 pub enum Fewest {
     NoWay,

@@ -64,7 +64,7 @@ fn reset<M: PathMetric>(labels: &mut [Label<M>], source: usize)
 // A search over a table for the best paths from one of its junctions.
 // The labels stay a parameter. With them inside, each method would owe clauses more, that they are still the caller's
 // and that table and source are as they were; and what is kept of them tells of paths, so it has many proofs, where the
-// fact of a field may have one.
+// fact of a field may have one. What a method leaves behind is one named fact, `Follows`, of the labels before and after.
 #[derive(Clone, Copy)]
 struct Search<'a> {
     table: &'a Table,

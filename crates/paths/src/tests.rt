@@ -15,6 +15,7 @@ use network::valve::Valve;
 use std::cmp::Reverse;
 use std::test::Fail;
 
+// A network without pipes. The engines' bare one has two junctions, and is of a crate above.
 fn bare(junctions: usize) -> Table
     requires { (2 ≤ junctions) × (junctions ≤ 64) }
     ensures { result.junctions ≡ junctions }

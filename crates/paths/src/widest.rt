@@ -3,7 +3,8 @@ ghost use Rattle.paths.specs.Widths.{Width, unbounded, width, Wider, narrowed, w
 use crate::metric::PathMetric;
 
 // The smallest weight on the path, the greater the better. Only the path with no pipe is unbounded, and it is the best:
-// an Option of a number would put None below all numbers.
+// an Option of a number would put None below all numbers. No way is Litres(0): a weight of 0 makes any length "none", so that
+// a variant of its own would say the same twice.
 #[derive(Clone, Copy, PartialEq, Eq, PartialOrd, Ord, Debug)]
 pub enum Widest {
     Litres(u32),

@@ -75,7 +75,8 @@ impl Plan {
         if self.pump >= 64 || self.outlet >= 64 || self.links.len() != flows.len() {
             return false;
         }
-        // What flows out of each junction less what flows in, by the junction's number.
+        // What flows out of each junction less what flows in, by the junction's number. An array and no map: every
+        // junction from 0 on has a net, and an array needs no memory that could lack.
         let mut nets = [0i64; 64];
         for (link, flow) in self.links.iter().zip(flows) {
             if *flow > link.room() || link.from >= 64 || link.to >= 64 {
@@ -94,8 +95,8 @@ impl Plan {
     // The junctions that residual steps lead to from a junction or, against their way, those from which they lead to it.
     fn reach(&self, flows: &[u32], junction: usize, direction: Direction) -> u64 {
         let mut set = only(junction);
-        // A round adds the ends of all steps from the set, and 64 junctions are there after 63 rounds at the latest:
-        // so many rounds end without a measure of what is missing.
+        // Each round adds the ends of all steps from the set, so 63 find all of 64 junctions; a fixed number of rounds
+        // needs no proof that a round adds something.
         for _ in 0..64usize {
             for (link, flow) in self.links.iter().zip(flows) {
                 set = link.spread(*flow, set, direction);

@@ -53,7 +53,7 @@ fn columns(number: usize) -> [u8; NUMBER_BYTES] {
     columns
 }
 
-// The bytes in their place, where the sheet has it.
+// The bytes in their place, where the sheet has it: a slice from there on would ask each caller whether it does.
 fn put(sheet: &mut [u8], at: usize, bytes: &[u8]) {
     if at <= sheet.len() && bytes.len() <= sheet.len() - at {
         sheet[at..at + bytes.len()].copy_from_slice(bytes);
@@ -115,6 +115,7 @@ impl Plan {
         }
     }
 
+    // Limit and valve are two fields: the two functions share what is done with the changed link.
     pub fn set_limit(&mut self, pipe: usize, limit: u32) {
         if let Some(link) = self.links.get(pipe).copied() {
             self.change(pipe, Link { limit, ..link });

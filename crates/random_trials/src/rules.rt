@@ -28,6 +28,7 @@ fn due_space(space: usize, needed: usize) -> Result<(), Refusal>
 }
 
 // How each request must be answered, by the rules as they are told here a second time: carried out, or refused for a reason.
+// A call without text concerns no line: the rules have 0 there.
 impl Plan {
     fn due_pipe(&self, pipe: usize) -> Result<Link, Refusal>
         ensures { result ≡ due_of_pipe self.now.links.items pipe }

@@ -40,7 +40,8 @@ pub fn page_length(extent: &Extent) -> usize
 }
 
 // An engine with a workspace that is large enough, and how much it is to rate: its network has so many junctions and pipes.
-// That a method leaves the `ghost_name` of a reference as it was says that the reference is still the caller's.
+// That a method leaves the `ghost_name` of a reference as it was says that the reference is still the caller's. Each method
+// states it: it speaks of two moments, before and after, and a field speaks of one.
 #[derive(Drop)]
 struct Rater<'e, 'w, E: Engine> {
     engine: &'e mut E,
@@ -65,7 +66,8 @@ impl<E: Engine> Rater<'_, '_, E> {
         }
     }
 
-    // Sets the valves for a step and writes its two lines. The answer is the value.
+    // Sets the valves for a step and writes its two lines, at a place that is handed on to both: they take space and
+    // place, as their crate says why. The answer is the value.
     fn rate_step(&mut self, page: &mut [u8], at: usize, step: usize, letters: &[u8]) -> u32
         requires long { length letters.now ≡ self.old.extent.pipes }
         requires sound { is_pattern letters.now ≡ true }

@@ -66,7 +66,8 @@ fn ask<E: FlowEngine>(
             let told = engine.governing(pipe, work);
             Ok(told.map_or_else(Answer::Refused, Answer::Governs))
         }
-        // The last two answers keep the copy that was written.
+        // The last two answers take the copy that was written with them. They are matched: a closure that holds the copy was
+        // tried, and its proof did not close.
         Request::WriteSheet(old) => {
             let mut space = old.to_vec(heap)?;
             match engine.write_sheet(&mut space) {
@@ -85,7 +86,8 @@ fn ask<E: FlowEngine>(
 }
 
 // One call, given the places that it asks for, or all that there are. Engine and workspace are two parameters throughout:
-// each call is given another part of the workspace, so that a struct of the two would be made anew for each.
+// each call is given another part of the workspace, so that a struct of the two would be made anew for each. The calls stay
+// beside them too: a struct of calls and workspace would be taken apart again at the first loop.
 fn answer_call<E: FlowEngine>(
     heap: Global,
     engine: &mut E,

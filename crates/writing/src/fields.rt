@@ -15,7 +15,8 @@ pub fn put_number(field: &mut [u8], value: u64)
     put_tens(front, value / 10);
 }
 
-// Writes what is left of a number's last digit, from the right: its other digits, and blanks where it has no more.
+// Writes what is left of a number's last digit, from the right: its other digits, and blanks where it has no more; 0 is blank
+// here, and a digit there. It calls itself for each column, of which a field has 14 at most.
 fn put_tens(front: &mut [u8], tens: u64)
     ensures { front.new ≡ padded (length front.old) tens }
 {

@@ -62,7 +62,7 @@ fn put_sides(letters: &mut [u8], report: &Report)
     put_letters(letters, |k| letter_of_side(report, k));
 }
 
-// By the pipe's number: of columns that are zipped with the marks, nothing is known behind the loop.
+// By the pipe's number: columns zipped with the marks were tried, and left nothing known behind the loop.
 fn put_marks(letters: &mut [u8], marks: &[bool])
     requires { length letters.old ≡ length marks.now }
     ensures { letters.new ≡ map mark marks.now }
@@ -131,9 +131,8 @@ fn fill_fail(line: &mut [u8], refusal: &Refusal)
 }
 
 // These functions write one line each, for callers that have the room.
-// They take the whole space and the line's place. Over a slice that begins at the line, the calls below that test the room
-// were tried and did not close, since the part has to be put back into the space.
-// After a write to `space[at..]` each such caller would have to put the part back into the whole first.
+// They take the whole space and the line's place: over `space[at..]`, the calls below that test the room were tried and did
+// not close, since each would have to put the part back into the whole.
 
 // The RATE line of a step.
 #[tactic(auto, using(crate::proofs::Puts::put_part, crate::proofs::PageLines::rate_length))]

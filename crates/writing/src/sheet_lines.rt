@@ -27,7 +27,8 @@ fn letter_of_valve(valve: Valve) -> u8
     }
 }
 
-// These functions fill a slice that is one line long with that line.
+// These functions fill a slice that is one line long with that line. Each splits its own columns off and names them, as for
+// the lines of a page: a list of columns to go through would have to say the same, and where each begins.
 
 // The NETW line.
 #[tactic(auto, using(formats::proofs::Lengths::table_length), unfolding(formats::specs::Written::header_columns))]

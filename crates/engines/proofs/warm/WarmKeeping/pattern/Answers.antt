@@ -11,7 +11,7 @@ set_valves-requires g c =
     let t = c.args.settled.now.table in
     let u = c.close_marked-closing.new.self.augmenter.table in
     let bs = c.args.letters.now in
-    let closings = rw c.mending-mending.ensures.table at c.close_marked-closing.ensures.closings in
+    let closings = rw c.mending-repair.ensures.table at c.close_marked-closing.ensures.closings in
     record { long = c.requires.long ∙ closed_count t u bs _ closings; dry = closed_dry t u bs _ closings c.requires.long }
 
 pub refill-change-requires : goal.refill-change-requires
@@ -26,7 +26,7 @@ returns g c =
     let t = c.args.settled.now.table in
     let u = c.close_marked-closing.new.self.augmenter.table in
     let bs = c.args.letters.now in
-    let closings = rw c.mending-mending.ensures.table at c.close_marked-closing.ensures.closings in
+    let closings = rw c.mending-repair.ensures.table at c.close_marked-closing.ensures.closings in
     let fits : SFits w64 c.refill-change.result.0 = search rules in
     let becomes = c.set_valves.ensures.network ∙ closed_set t u bs _ closings in
     record {
