@@ -1,3 +1,5 @@
+pub mod FirstMissed
+pub mod Fitting
 pub mod Growing
 pub mod Lengths
 pub mod Reading

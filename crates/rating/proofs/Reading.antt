@@ -10,8 +10,8 @@ use Rattle.formats.specs.Pages.{total_line}
 use Rattle.formats.specs.Spaces.{put_at}
 use Rattle.formats.specs.Sheets.{and_then, sheet_in}
 use Rattle.texts.specs.declared.extent.Extent.{Extent}
-use Rattle.texts.specs.Laws.{Read}
-use Rattle.texts.specs.Texts.{text_in, text_of}
+use Rattle.texts.specs.Laws.{TextRead, Read}
+use Rattle.texts.specs.Texts.{text_in}
 use Rattle.texts.proofs.Reading.{sheet_of_text}
 use Rattle.interface.specs.Verdicts.{loading}
 use Rattle.rating.specs.Pages.{all_lines, litres, last_network, page_of, page_length_of}
@@ -83,10 +83,10 @@ module _ (most places : ℕ) (text : List ℕ) (space : ℕ) where
       pub page_is : (u v : Network) (n : ℕ) (page lines final : List ℕ) (total long : ℕ) → loading most places text ≡ Ok (u, n) → v ≡ last_network u ss → lines ≡ put_at 0 (all_lines 1 u ss) page → total ≡ litres u ss
           → long ≡ page_length_of x.steps x.junctions x.pipes → final ≡ put_at (long - 19) (total_line total) lines → page_length_of x.steps x.junctions x.pipes ≤ space
           → (w : Network) × (ts : List Timed) × (rating most places text space ≡ Ok (w, ts)) × (long ≡ length (page_of w ts)) × (long ≡ page_length_of (length ts) w.junctions (size w)) × (final ≡ put_at 0 (page_of w ts) page)
-          × (v ≡ last_network w ts) × (text ≡ text_of w ts)
+          × (v ≡ last_network w ts) × TextRead most text w ts
       page_is u v n page lines final total long load means written litres_are e put fits =
           let w = got.network in
           let is = loaded u n load in
           let length_is : long ≡ page_length_of (length ss) got.network.junctions (size got.network) = e ∙ (λ i. page_length_of (got.long i) (got.joined i) (got.sized i)) in
           let rated : Rated got.network page ss v lines total = record { means = means ∙ ap (λ (x : Network). last_network x ss) is; written = written ∙ ap (λ (x : Network). put_at 0 (all_lines 1 x ss) page) is; litres_are = litres_are ∙ ap (λ (x : Network). litres x ss) is } in
-          (w, ss, fitting fits, length_is ∙ sym (page_of_length w ss), length_is, page_done w page ss v lines final total (long - 19) rated (omega (arith, length_is)) put, rated.means, got.whole.is)
+          (w, ss, fitting fits, length_is ∙ sym (page_of_length w ss), length_is, page_done w page ss v lines final total (long - 19) rated (omega (arith, length_is)) put, rated.means, got.whole)

@@ -1,4 +1,4 @@
-ghost use Rattle.std.specs.Prelude.{◌≡◌, ◌+◌, ◌*◌, ◌<◌, ◌≤◌, true, List, map, length, take, Ok, Err};
+ghost use Rattle.std.specs.Prelude.{◌≡◌, ◌+◌, ◌*◌, ◌<◌, ◌≤◌, true, List, map, length, take, Some, Ok, Err};
 ghost use Rattle.std.specs.List.{AllByRecursion};
 ghost use Rattle.network.specs.Network.{Network};
 ghost use Rattle.network.specs.Reports.{report_of};
@@ -6,8 +6,10 @@ ghost use Rattle.network.specs.Residual.{size};
 ghost use Rattle.formats.specs.Letters.{is_pattern};
 ghost use Rattle.formats.specs.Schedules.{Timed, SoundStep, timed};
 ghost use Rattle.formats.specs.Spaces.{put_at};
-ghost use Rattle.texts.specs.Texts.{text_of};
+ghost use Rattle.texts.specs.Conditions.{first_missed};
+ghost use Rattle.texts.specs.Laws.{TextRead};
 ghost use Rattle.interface.specs.Verdicts.{patterned};
+ghost use Rattle.rating.specs.Conditions.{page_conditions};
 ghost use Rattle.rating.specs.Pages.{governing_row, step_lines, all_lines, litres, last_network, page_of, page_length_of};
 ghost use Rattle.rating.specs.Ratings.{rating};
 
@@ -128,8 +130,9 @@ pub fn rate<E: Engine>(
           × (n ≡ page_length_of (length ss) w.junctions (size w))
           × (page.new ≡ put_at 0 (page_of w ss) page.old)
           × (E.Engine.meaning engine.new ≡ last_network w ss)
-          × (text.now ≡ text_of w ss)
+          × TextRead E.Engine.MOST_JUNCTIONS text.now w ss
       | Err e ↦ (rating E.Engine.MOST_JUNCTIONS (length work.old) text.now (length page.old) ≡ Err e)
+          × (first_missed (page_conditions E.Engine.MOST_JUNCTIONS (length work.old) text.now (length page.old)) ≡ Some e)
           × (engine.new ≡ engine.old)
           × (work.new ≡ work.old)
           × (page.new ≡ page.old)
@@ -139,12 +142,7 @@ pub fn rate<E: Engine>(
     if work.len() < most {
         return Err(Refusal::FewPlaces);
     }
-    // No heap: an array for the most steps, of which a slice of those that were read is passed on.
-    let mut steps = [TimedPattern {
-        minutes: 0,
-        letters: b"",
-    }; MOST_STEPS];
-    let extent = read_text(text, most, &mut steps)?;
+    let (extent, steps) = read_text(text, most)?;
     let length = page_length(&extent);
     if page.len() < length {
         return Err(Refusal::LittleSpace);

@@ -1,9 +1,15 @@
-ghost use Rattle.std.specs.Prelude.{◌≡◌, List, length};
-ghost use Rattle.network.specs.Network.{Network};
+ghost use Rattle.std.specs.Prelude.{◌≡◌, ℕ, ◌↔◌, List, length, Some, Err};
+ghost use Rattle.network.specs.Network.{Network, Sound};
 ghost use Rattle.network.specs.Residual.{size};
+ghost use Rattle.formats.specs.declared.refusal.Refusal.{Refusal};
 ghost use Rattle.formats.specs.Schedules.{Timed};
+ghost use Rattle.texts.specs.Conditions.{first_missed};
+ghost use Rattle.texts.specs.Laws.{SoundSchedule};
+ghost use Rattle.rating.specs.Conditions.{page_conditions};
 ghost use Rattle.rating.specs.Examples.{Examples};
+ghost use Rattle.rating.specs.Fits.{NumbersFit};
 ghost use Rattle.rating.specs.Pages.{page_of, page_length_of};
+ghost use Rattle.rating.specs.Ratings.{rating};
 
 // These functions do nothing: each stands for the theorem in its contract, so that no check passes without its proof.
 
@@ -15,4 +21,14 @@ pub fn page_lengths()
 // A text and its page, worked out by the definitions.
 pub fn example_page()
     ensures { Examples }
+{}
+
+// No number of a page is too long for its columns, so none is cut.
+pub fn numbers_fit()
+    ensures { (w : Network) (ss : List Timed) → Sound w → SoundSchedule (size w) ss → NumbersFit w ss }
+{}
+
+// A page call is refused exactly for the first condition that it misses.
+pub fn refusals_in_order()
+    ensures { (most places : ℕ) (text : List ℕ) (space : ℕ) (e : Refusal) → (rating most places text space ≡ Err e) ↔ (first_missed (page_conditions most places text space) ≡ Some e) }
 {}

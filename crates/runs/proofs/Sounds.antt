@@ -1,44 +1,24 @@
 -- Every network of a run is sound.
-use Rattle.std.proofs.Common.{◌≡◌, ℕ, ◌<◌, ◌≤◌, min, cond, ◌&&◌, eqb, ltb, leb, List, [], ◌∷◌, length, Some, None, Ok, Err, Option, Result, refl, arith, length-set}
+use Rattle.std.proofs.Common.{◌≡◌, ℕ, ◌<◌, ◌≤◌, min, cond, ◌&&◌, eqb, ltb, leb, List, [], ◌∷◌, length, Ok, Err, Result, refl, arith, length-set}
 use Rattle.std.proofs.ByRecursion.{All-get_or, All-set}
 use Rattle.std.proofs.lemmas.Bool.{cond_both, and_parts, ltb-true, leb-true}
-use Rattle.std.specs.List.{AllByRecursion}
 use Rattle.network.specs.declared.valve.Valve.{Valve}
 use Rattle.network.specs.Changes as changes
 use Rattle.network.specs.Changes.{with_pipe, with_limit, with_valve}
 use Rattle.network.specs.Governing.{is_open}
-use Rattle.network.specs.Network.{Pipe, Network, Joins, Limited, Sound, bare}
+use Rattle.network.specs.Network.{Pipe, Network, Limited, Sound, bare}
 use Rattle.network.specs.Residual.{nowhere, pipe, size}
 use Rattle.network.proofs.Changes.{with_wired}
 use Rattle.formats.specs.declared.refusal.Refusal.{Refusal}
 use Rattle.formats.specs.declared.refusal.Refusal.TheVariants.{BadLine, OutOfRange, WrongLetter, NoSuchPipe, FewPlaces, AlreadyOpen, AlreadyClosed}
-use Rattle.formats.specs.declared.setting.Setting.{Setting}
-use Rattle.formats.specs.Letters.{setting_of, is_pattern}
-use Rattle.interface.specs.Verdicts.{with_places, with_number, loading, set_by, lettered, patterned}
+use Rattle.formats.specs.Letters.{is_pattern}
+use Rattle.interface.specs.Verdicts.{with_places, with_number, loading, patterned}
+use Rattle.interface.proofs.Patterned.{patterned_sound}
 use Rattle.runs.specs.declared.call.Request.{Request}
 use Rattle.runs.specs.declared.call.Request.TheVariants.{Load, Open, Close, Limit, Pattern, Report, Governing, WriteSheet, ReadFlow}
 use Rattle.runs.specs.declared.call.Call.{Call}
 use Rattle.runs.specs.Networks.{accepted, accepted_sheet, next_network, network_after}
 use Rattle.runs.proofs.Sheets.{loaded_sound}
-
--- what a pattern leaves of each pipe, it leaves of all
-all_lettered : (P : Pipe → Type 0) → ((s : Option Setting) (p : Pipe) → P p → P (set_by s p)) → (bs : List ℕ) (ps : List Pipe) → AllByRecursion P ps → AllByRecursion P (lettered bs ps)
-all_lettered P h [] ps a = a
-all_lettered P h (b ∷ bs) [] a = a
-all_lettered P h (b ∷ bs) (p ∷ ps) a = (h (setting_of b) p a.0, all_lettered P h bs ps a.1)
-
-lettered_long : (bs : List ℕ) (ps : List Pipe) → length (lettered bs ps) ≡ length ps
-lettered_long [] ps = refl
-lettered_long (b ∷ bs) [] = refl
-lettered_long (b ∷ bs) (p ∷ ps) = let e = lettered_long bs ps in omega arith
-
-set_joins : (n : ℕ) (s : Option Setting) (p : Pipe) → Joins n p → Joins n (set_by s p)
-set_joins n None p j = j
-set_joins n (Some s) p j = record { from_in = j.from_in; to_in = j.to_in; apart = j.apart }
-
-set_limited : (s : Option Setting) (p : Pipe) → Limited p → Limited (set_by s p)
-set_limited None p l = l
-set_limited (Some s) p l = record { some = l.some; few = l.few }
 
 with_sound : (w : Network) (k : ℕ) (p : Pipe) → k < size w → p.from ≡ (pipe w k).from → p.to ≡ (pipe w k).to → Limited p → Sound w → Sound (with_pipe w k p)
 with_sound w k p k-in from to l s = record {
@@ -53,20 +33,6 @@ valve_sound : (w : Network) (k : ℕ) (v : Valve) → k < size w → Sound w →
 valve_sound w k v k-in s =
     let l = All-get_or Limited w.pipes k nowhere k-in s.limited in
     with_sound w k (with_valve (pipe w k) v) k-in refl refl (record { some = l.some; few = l.few }) s
-
-patterned_sound : (w : Network) (bs : List ℕ) → Sound w → Sound (patterned w bs)
-patterned_sound w bs s = record {
-  wired = record {
-    pump_in = s.wired.pump_in;
-    outlet_in = s.wired.outlet_in;
-    apart = s.wired.apart;
-    joins = all_lettered (Joins w.junctions) (set_joins w.junctions) bs w.pipes s.wired.joins;
-  };
-  two = s.two;
-  most = s.most;
-  held = omega (arith, s.held, lettered_long bs w.pipes);
-  limited = all_lettered Limited set_limited bs w.pipes s.limited;
-}
 
 -- sound, and within an engine's bound
 abbrev pub Fits : ℕ → Network → Type 0

@@ -6,7 +6,6 @@ use Rattle.formats.specs.declared.refusal.Refusal.{Refusal}
 use Rattle.formats.specs.declared.refusal.Refusal.TheVariants.{BadLine, WrongKind, BadNumber, OutOfRange, WrongLetter, SameEnds, TrailingBytes}
 use Rattle.formats.specs.declared.header.Header.{Header}
 use Rattle.texts.specs.Conditions.{Condition, first_missed, missed, field, number_or, line_conditions, number_conditions, ends_conditions, valve_conditions, header_conditions, pipe_conditions, pipes_conditions, sheet_conditions, step_conditions, steps_conditions, schedule_conditions}
-use Rattle.texts.specs.Laws.{RefusalLaws}
 use Rattle.formats.specs.Letters.{valve_of, is_pattern}
 use Rattle.formats.specs.Lines.{ended, first_line, after_line}
 use Rattle.formats.specs.Sheets.{and_then, of_kind, due, ranged, number_at, header, header_in, blank, lettered, valve_at, pipe_in, next_pipe_in, pipes_in, sheet_in}
@@ -167,12 +166,6 @@ schedule_missed pipes i bs =
     ap missed (regroup (due (codes "SCHD") 9 i bs) (number_at i 0 1 100) then)
     ∙ due_chain (codes "SCHD") 9 i bs _ _ (number_chain i 1 100 (field 0 (first_line bs)) then _ (steps_missed (number_or (field 0 (first_line bs))) pipes (i + 1) (i + number_or (field 0 (first_line bs)) + 1) (after_line bs) [] (omega arith)))
 
-refused_with : {A : Type 0} (r : Result A Refusal) (o : Option Refusal) (e : Refusal) → missed r ≡ o → (r ≡ Err e) ↔ (o ≡ Some e)
+pub refused_with : {A : Type 0} (r : Result A Refusal) (o : Option Refusal) (e : Refusal) → missed r ≡ o → (r ≡ Err e) ↔ (o ≡ Some e)
 refused_with (Ok x) o e h = ((λ p. absurd cc), (λ p. absurd cc))
 refused_with (Err d) o e h = ((λ p. cc), (λ p. let q : d ≡ e = cc in ap (λ (x : Refusal). Err x) q))
-
-pub refusal_laws : RefusalLaws
-refusal_laws = record {
-  sheets = λ most i bs e. refused_with (sheet_in most i bs) (first_missed (sheet_conditions most i bs)) e (sheet_missed most i bs);
-  schedules = λ pipes i bs e. refused_with (schedule_in pipes i bs) (first_missed (schedule_conditions pipes i bs)) e (schedule_missed pipes i bs);
-}

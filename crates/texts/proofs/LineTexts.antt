@@ -108,6 +108,7 @@ line_split bs e =
 
 -- a line that was read as due
 pub record Due (kind : List ℕ) (columns : ℕ) (bs l : List ℕ) : Type 0 where
+  pub line : first_line bs ≡ l
   pub is : bs ≡ l ++ 10 ∷ after_line bs
   pub long : length l ≡ columns
   pub kinded : of_kind kind l ≡ true
@@ -124,7 +125,7 @@ due_read kind columns i bs l e =
     let f : first_line bs ≡ l = t.3 in
     let q : eqb (length (first_line bs)) columns ≡ true = t.1 in
     let n : length (first_line bs) ≡ columns = grind (arith, nat_tests) in
-    record { is = line_split bs t.0 ∙ ap (λ (x : List ℕ). x ++ 10 ∷ after_line bs) f; long = ap length (sym f) ∙ n; kinded = ap (of_kind kind) (sym f) ∙ t.2 }
+    record { line = f; is = line_split bs t.0 ∙ ap (λ (x : List ℕ). x ++ 10 ∷ after_line bs) f; long = ap length (sym f) ∙ n; kinded = ap (of_kind kind) (sym f) ∙ t.2 }
 
 pub kind_read : (a b c d : ℕ) (l : List ℕ) → 4 ≤ length l → of_kind (a ∷ b ∷ c ∷ d ∷ []) l ≡ true → take 4 l ≡ a ∷ b ∷ c ∷ d ∷ []
 kind_read a b c d [] h e = absurd (omega arith)

@@ -1,5 +1,5 @@
 -- What the reader makes of a text.
-use Rattle.std.proofs.Common.{◌≡◌, ℕ, ◌+◌, ◌≤◌, List, map, length, take, drop, Ok, Err, Result, ap, ◌∙◌}
+use Rattle.std.proofs.Common.{◌≡◌, ℕ, ◌+◌, ◌≤◌, List, map, length, take, drop, Ok, Err, Result, sym, ap, ◌∙◌}
 use Rattle.std.proofs.lemmas.List.{length-map, length-take-le}
 use Rattle.network.specs.Network.{Network}
 use Rattle.network.specs.Residual.{size}
@@ -43,3 +43,9 @@ module _ (most : ℕ) (text : List ℕ) where
       let r = s.0 in
       let t = and_split (schedule_in (size r.0) (2 + size r.0) r.1) _ (w, ss) s.1.1 in
       (r.1, s.1.0 ∙ ap (λ (u : Network). Ok (u, r.1)) (ok_both r.0 w t.0 ss t.1.1).0)
+
+  -- and its schedule
+  pub schedule_of_text : (w : Network) (ss : List Timed) (after : List ℕ) → sheet_in most 1 text ≡ Ok (w, after) → text_in most text ≡ Ok (w, ss) → schedule_in (size w) (2 + size w) after ≡ Ok ss
+  schedule_of_text w ss after p e =
+      let t = and_split (schedule_in (size w) (2 + size w) after) _ (w, ss) (sym (by_schedule w after p) ∙ e) in
+      t.1.0 ∙ ap (λ (x : List Timed). Ok x) (ok_both w w t.0 ss t.1.1).1

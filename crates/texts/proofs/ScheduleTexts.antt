@@ -1,5 +1,5 @@
 -- Schedules are read as they are written.
-use Rattle.std.proofs.Common.{◌≡◌, ℕ, suc, ◌+◌, ◌≤◌, Bool, true, false, cond, ◌&&◌, eqb, ◌↔◌, List, [], ◌∷◌, ◌++◌, length, take, drop, is_some, Ok, Err, codes, Result, sym, refl, ap, ◌∙◌, subst, append_assoc, arith, length-append}
+use Rattle.std.proofs.Common.{◌≡◌, ℕ, zero, suc, ◌+◌, ◌≤◌, Bool, true, false, cond, ◌&&◌, eqb, ◌↔◌, List, [], ◌∷◌, ◌++◌, length, take, drop, is_some, Ok, Err, codes, Result, sym, refl, ap, ◌∙◌, subst, append_assoc, arith, length-append}
 use Rattle.std.specs.List.{flat_map, AllByRecursion}
 use Rattle.std.proofs.lemmas.Bool.Decides.{nat_tests}
 use Rattle.std.proofs.lemmas.List.{append-nil, length-drop, nil_from_length}
@@ -8,7 +8,7 @@ use Rattle.formats.specs.declared.refusal.Refusal.TheVariants.{WrongLetter, Trai
 use Rattle.formats.specs.Fields.{written}
 use Rattle.texts.specs.Laws.{SoundSchedule, ScheduleLaws}
 use Rattle.formats.specs.Letters.{setting_of, is_pattern}
-use Rattle.formats.specs.Lines.{after_line}
+use Rattle.formats.specs.Lines.{first_line, after_line}
 use Rattle.formats.specs.Sheets.{and_then, of_kind, due, number_at}
 use Rattle.formats.specs.Schedules.{Timed, SoundStep, step_in, next_step_in, steps_in, next_count_in, schedule_in}
 use Rattle.formats.specs.Written.{count_columns, step_columns, step_line, schedule_of}
@@ -133,7 +133,7 @@ count_read i l n long kind e =
     (one_field_split l ∙ (λ x. k x ++ (n₁.0 x ++ none x)) ∙ ap (λ (x : List ℕ). codes "SCHD" ++ x) (append-nil (written 5 n)), n₁.1, n₁.2)
 
 -- no byte was left
-ended_read : (bs : List ℕ) (i : ℕ) (ss qs : List Timed) → cond {A = Result (List Timed) Refusal} (eqb (length bs) 0) (Ok ss) (Err (TrailingBytes i)) ≡ Ok qs → (bs ≡ []) × (ss ≡ qs)
+pub ended_read : (bs : List ℕ) (i : ℕ) (ss qs : List Timed) → cond {A = Result (List Timed) Refusal} (eqb (length bs) 0) (Ok ss) (Err (TrailingBytes i)) ≡ Ok qs → (bs ≡ []) × (ss ≡ qs)
 ended_read [] i ss qs e = (refl, cc)
 ended_read (b ∷ bs) i ss qs e = absurd (let t : eqb (suc (length bs)) 0 ≡ false = grind (arith, nat_tests) in let f = ap (λ (x : Bool). cond {A = Result (List Timed) Refusal} x (Ok ss) (Err (TrailingBytes i))) t in cc)
 
@@ -163,6 +163,24 @@ schedule_read pipes i bs ss e =
     ∙ sym (append_assoc (count_columns (length p.new)) (10 ∷ []) (flat_map step_line p.new)) in
     subst (λ (x : List Timed). SoundSchedule pipes x × (bs ≡ schedule_of x)) same (sound, is)
 
+-- the columns of the first step line of a schedule that was read
+step_width : (pipes i : ℕ) (bs : List ℕ) (ss : List Timed) → schedule_in pipes i bs ≡ Ok ss → length (first_line (after_line bs)) ≡ 9 + pipes
+step_width pipes i bs ss e =
+    let s = and_split (next_count_in i bs) _ ss e in
+    let t = and_split (due (codes "SCHD") 9 i bs) (number_at i 0 1 100) s.0 s.1.0 in
+    let d = due_read (codes "SCHD") 9 i bs t.0 t.1.0 in
+    let c = number_read i 0 1 100 t.0 s.0 (omega (arith, d.long)) t.1.1 in
+    let q = and_split (steps_in s.0 pipes (i + 1) (after_line bs) []) _ ss s.1.1 in
+    first s.0 q.0 q.1.0 c.1
+  where
+    first : (n : ℕ) (r : List Timed × List ℕ) → steps_in n pipes (i + 1) (after_line bs) [] ≡ Ok r → 1 ≤ n → length (first_line (after_line bs)) ≡ 9 + pipes
+    first zero r p h = absurd (omega arith)
+    first (suc n) r p h =
+        let s = and_split (next_step_in pipes (i + 1) (after_line bs)) _ r p in
+        let t = and_split (due (codes "STEP") (9 + pipes) (i + 1) (after_line bs)) (step_in (i + 1)) s.0 s.1.0 in
+        let d = due_read (codes "STEP") (9 + pipes) (i + 1) (after_line bs) t.0 t.1.0 in
+        ap length d.line ∙ d.long
+
 module _ (pipes : ℕ) where
   written_read : (ss : List Timed) → SoundSchedule pipes ss → (i : ℕ) → schedule_in pipes i (schedule_of ss) ≡ Ok ss
   written_read ss sound i = schedule_written pipes i ss sound
@@ -181,11 +199,14 @@ module _ (pipes : ℕ) where
     (λ h. none_left i bs h (schedule_in pipes i bs) refl),
   )
 
-  one : (ss ts : List Timed) → SoundSchedule pipes ss → SoundSchedule pipes ts → schedule_of ss ≡ schedule_of ts → ss ≡ ts
-  one ss ts a b e =
+  -- a schedule tells the number of pipes: its second line has a letter for each
+  one : (others : ℕ) (ss ts : List Timed) → SoundSchedule pipes ss → SoundSchedule others ts → schedule_of ss ≡ schedule_of ts → ss ≡ ts
+  one others ss ts a b e =
       let p = schedule_written pipes 1 ss a in
-      let q = schedule_written pipes 1 ts b in
-      let r : ◌≡◌ {A = Result (List Timed) Refusal} (Ok ss) (Ok ts) = sym p ∙ ap (schedule_in pipes 1) e ∙ q in
+      let q = schedule_written others 1 ts b in
+      let widths : 9 + pipes ≡ 9 + others = sym (step_width pipes 1 (schedule_of ss) ss p) ∙ ap (λ (bs : List ℕ). length (first_line (after_line bs))) e ∙ step_width others 1 (schedule_of ts) ts q in
+      let same : pipes ≡ others = omega (arith, widths) in
+      let r : ◌≡◌ {A = Result (List Timed) Refusal} (Ok ss) (Ok ts) = sym p ∙ (λ x. schedule_in (same x) 1 (e x)) ∙ q in
       cc
 
   pub schedule_laws : ScheduleLaws pipes

@@ -79,11 +79,22 @@ pipes_conditions zero junctions i bs = []
 pipes_conditions (suc k) junctions i bs =
     (line_conditions (codes "PIPE") 24 i bs ++ pipe_conditions junctions i (first_line bs)) ++ pipes_conditions k junctions (i + 1) (after_line bs)
 
+-- the numbers of junctions and pipes in the first line of a sheet
+abbrev pub junctions_said : List ℕ → ℕ
+junctions_said bs = number_or (field 0 (first_line bs))
+
+abbrev pub pipes_said : List ℕ → ℕ
+pipes_said bs = number_or (field 1 (first_line bs))
+
+-- the number of steps in the first line of a schedule
+abbrev pub schedule_steps_said : List ℕ → ℕ
+schedule_steps_said bs = number_or (field 0 (first_line bs))
+
 -- a sheet from line i on
 unfoldable pub sheet_conditions : ℕ → ℕ → List ℕ → List Condition
 sheet_conditions most i bs =
     (line_conditions (codes "NETW") 24 i bs ++ header_conditions most i (first_line bs))
-    ++ pipes_conditions (number_or (field 1 (first_line bs))) (number_or (field 0 (first_line bs))) (i + 1) (after_line bs)
+    ++ pipes_conditions (pipes_said bs) (junctions_said bs) (i + 1) (after_line bs)
 
 -- a STEP line: minutes, pattern
 abbrev pub step_conditions : ℕ → List ℕ → List Condition
@@ -100,18 +111,21 @@ unfoldable pub schedule_conditions : ℕ → ℕ → List ℕ → List Condition
 schedule_conditions pipes i bs =
     line_conditions (codes "SCHD") 9 i bs
     ++ (number_conditions i 1 100 (field 0 (first_line bs))
-    ++ steps_conditions (number_or (field 0 (first_line bs))) pipes (i + 1) (after_line bs))
+    ++ steps_conditions (schedule_steps_said bs) pipes (i + 1) (after_line bs))
 
 -- the bytes behind k lines
 abbrev pub after_lines : ℕ → List ℕ → List ℕ
 after_lines zero bs = bs
 after_lines (suc k) bs = after_lines k (after_line bs)
 
--- the number of pipes in the first line of a sheet
-abbrev pub pipes_said : List ℕ → ℕ
-pipes_said bs = number_or (field 1 (first_line bs))
+-- what follows the lines of a sheet
+abbrev pub after_sheet : List ℕ → List ℕ
+after_sheet bs = after_lines (pipes_said bs) (after_line bs)
+
+-- the number of steps in a text
+abbrev pub steps_said : List ℕ → ℕ
+steps_said bs = schedule_steps_said (after_sheet bs)
 
 -- a text: a sheet, and a schedule behind its lines
 unfoldable pub text_conditions : ℕ → List ℕ → List Condition
-text_conditions most bs =
-    sheet_conditions most 1 bs ++ schedule_conditions (pipes_said bs) (2 + pipes_said bs) (after_lines (pipes_said bs) (after_line bs))
+text_conditions most bs = sheet_conditions most 1 bs ++ schedule_conditions (pipes_said bs) (2 + pipes_said bs) (after_sheet bs)

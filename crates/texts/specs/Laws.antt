@@ -1,5 +1,5 @@
 -- Texts are read as they are written, and in no other way.
-use Rattle.std.specs.Prelude.{◌≡◌, ℕ, ◌+◌, ◌≤◌, ◌↔◌, List, ◌++◌, length, take, drop, Some, None, Ok, Err, ◌≢◌}
+use Rattle.std.specs.Prelude.{◌≡◌, ℕ, ◌≤◌, ◌↔◌, List, ◌++◌, length, take, drop, Some, None, Ok, Err, ◌≢◌}
 use Rattle.std.specs.List.{AllByRecursion}
 use Rattle.network.specs.Network.{Network, Sound}
 use Rattle.network.specs.Residual.{size}
@@ -43,13 +43,20 @@ pub record ScheduleLaws (pipes : ℕ) : Type 0 where
   pub read_written : (i : ℕ) (bs : List ℕ) (ss : List Timed) → schedule_in pipes i bs ≡ Ok ss → SoundSchedule pipes ss × (bs ≡ schedule_of ss)
   -- a text is refused exactly when it is no schedule
   pub refused : (i : ℕ) (bs : List ℕ) → ((e : Refusal) × (schedule_in pipes i bs ≡ Err e)) ↔ ((ss : List Timed) → SoundSchedule pipes ss → bs ≢ schedule_of ss)
-  -- two lists of steps have different schedules
-  pub one : (ss ts : List Timed) → SoundSchedule pipes ss → SoundSchedule pipes ts → schedule_of ss ≡ schedule_of ts → ss ≡ ts
+  -- two lists of steps have different schedules, for as many pipes or others
+  pub one : (others : ℕ) (ss ts : List Timed) → SoundSchedule pipes ss → SoundSchedule others ts → schedule_of ss ≡ schedule_of ts → ss ≡ ts
+
+pub record TextLaws (most : ℕ) : Type 0 where
+  -- a text is accepted as w and ss exactly when it is the sheet of w and then the schedule of ss
+  pub taken : (bs : List ℕ) (w : Network) (ss : List Timed) → (text_in most bs ≡ Ok (w, ss)) ↔ (Accepted most w × SoundSchedule (size w) ss × (bs ≡ text_of w ss))
+  -- a text is refused exactly when it is no such text
+  pub refused : (bs : List ℕ) → ((e : Refusal) × (text_in most bs ≡ Err e)) ↔ ((w : Network) (ss : List Timed) → Accepted most w → SoundSchedule (size w) ss → bs ≢ text_of w ss)
 
 -- each refusal is given exactly when its condition is the first missed
 pub record RefusalLaws : Type 0 where
   pub sheets : (most i : ℕ) (bs : List ℕ) (e : Refusal) → (sheet_in most i bs ≡ Err e) ↔ (first_missed (sheet_conditions most i bs) ≡ Some e)
   pub schedules : (pipes i : ℕ) (bs : List ℕ) (e : Refusal) → (schedule_in pipes i bs ≡ Err e) ↔ (first_missed (schedule_conditions pipes i bs) ≡ Some e)
+  pub texts : (most : ℕ) (bs : List ℕ) (e : Refusal) → (text_in most bs ≡ Err e) ↔ (first_missed (text_conditions most bs) ≡ Some e)
 
 -- a text that begins with the sheet of w, n bytes long, and with the sheet of no other network
 pub record SheetRead (most : ℕ) (text : List ℕ) (w : Network) (n : ℕ) : Type 0 where
@@ -76,13 +83,9 @@ pub record TextRefused (most : ℕ) (text : List ℕ) (e : Refusal) : Type 0 whe
   pub first : first_missed (text_conditions most text) ≡ Some e
   pub none : (u : Network) (ts : List Timed) → Accepted most u → SoundSchedule (size u) ts → text ≢ text_of u ts
 
--- a text that has been read: its sheet, then its schedule, and how much there is to rate
+-- a text that has been read, and how much there is to rate
 pub record Read (most : ℕ) (text : List ℕ) (steps : List Timed) (x : Extent) : Type 0 where
   pub network : Network
-  pub after : List ℕ
-  pub sheet : sheet_in most 1 text ≡ Ok (network, after)
-  pub schedule : schedule_in (size network) (2 + size network) after ≡ Ok steps
-  pub sound : AllByRecursion (SoundStep (size network)) steps
   pub verdict : text_in most text ≡ Ok (network, steps)
   pub whole : TextRead most text network steps
   pub long : x.steps ≡ length steps

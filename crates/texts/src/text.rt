@@ -9,7 +9,7 @@ ghost use Rattle.texts.specs.Texts.{text_in};
 use crate::extent::Extent;
 use formats::reader::Reader;
 use formats::refusal::Refusal;
-use formats::schedule::TimedPattern;
+use formats::schedule::{MOST_STEPS, TimedPattern};
 use network::table::Table;
 
 // In both calls `most` is the most junctions that the caller takes. A table holds 64, and every engine is proved to take
@@ -35,27 +35,29 @@ pub fn read_sheet(text: &[u8], most: usize) -> Result<(Table, usize), Refusal>
     Ok((table, reader.at))
 }
 
-// Reads the whole text, a sheet and a schedule, whose steps go into the first elements; the elements beyond stay. The
-// answer is how much there is to rate.
+// Reads the whole text, a sheet and a schedule. The answer is how much there is to rate, and the steps, which are the first
+// elements of the array.
 pub fn read_text<'a>(
     text: &'a [u8],
     most: usize,
-    steps: &mut [TimedPattern<'a>],
-) -> Result<Extent, Refusal>
-    requires few { most ≤ 64 }
-    requires held { 100 ≤ length steps.old }
-    ensures read { elim result [
-      | Ok x ↦ Read most text.now (map timed (take x.steps steps.new)) x
+) -> Result<(Extent, [TimedPattern<'a>; MOST_STEPS]), Refusal>
+    requires { most ≤ 64 }
+    ensures { elim result [
+      | Ok p ↦ Read most text.now (map timed (take p.0.steps p.1)) p.0
       | Err e ↦ (text_in most text.now ≡ Err e) × TextRefused most text.now e
     ] }
-    ensures beyond { IfOk result (λ x. drop x.steps steps.new ≡ drop x.steps steps.old) }
 {
+    let mut steps = [TimedPattern {
+        minutes: 0,
+        letters: b"",
+    }; MOST_STEPS];
     let mut reader = Reader::new(text);
     let table = reader.sheet(most)?;
-    let count = reader.schedule(table.count, steps)?;
-    Ok(Extent {
+    let count = reader.schedule(table.count, &mut steps)?;
+    let extent = Extent {
         steps: count,
         junctions: table.junctions,
         pipes: table.count,
-    })
+    };
+    Ok((extent, steps))
 }

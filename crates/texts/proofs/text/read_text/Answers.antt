@@ -1,10 +1,9 @@
-use Rattle.std.proofs.Common.{◌≡◌, ℕ, ◌+◌, map, take, sym, refl, ◌∙◌, subst, arith}
-use Rattle.std.specs.List.{AllByRecursion}
+use Rattle.std.proofs.Common.{◌≡◌, ◌+◌, map, take, sym, refl, ◌∙◌, arith}
 use Rattle.std.proofs.lemmas.Result.{err_from_is_err_and}
 use Rattle.network.specs.Pipes.{network_of}
 use Rattle.network.specs.Residual.{size}
 use Rattle.formats.specs.Readers.{rest}
-use Rattle.formats.specs.Schedules.{SoundStep, schedule_in, timed}
+use Rattle.formats.specs.Schedules.{schedule_in, timed}
 use Rattle.formats.proofs.Lengths.{table_length}
 use Rattle.texts.proofs.Reading.{sheet_start, steps_length, sheet_missed, schedule_missed, text_read}
 use Rattle.texts.proofs.TextLaws.{text_is_read, text_is_refused}
@@ -16,7 +15,7 @@ returns-in_err-table c =
     let new = c.new-reader.ensures in
     let start = sheet_start c.args.most c.args.text.now c.new-reader.result new.0 new.1 new.2 in
     let e = sheet_missed c.args.most c.args.text.now _ (sym start ∙ c.in_err-table.ensures) in
-    rw (p.1, p.2) (record { read = (e, text_is_refused c.args.most c.args.text.now c.requires.few _ e); beyond = tt })
+    rw (p.1, p.2) (e, text_is_refused c.args.most c.args.text.now c.requires _ e)
 
 pub returns-in_err-count : goal.returns-in_err-count
 returns-in_err-count c =
@@ -30,7 +29,7 @@ returns-in_err-count c =
     let sized = table_length table in
     let line : c.sheet.new.self.lines + 1 ≡ 2 + size (network_of c.in_ok-table.table) = omega (arith, got.3.counted, new.2) in
     let e = schedule_missed c.args.most c.args.text.now w (rest reader) (sym start ∙ got.0) _ ((λ x. schedule_in (sized x) (sym line x) (rest c.sheet.new.self)) ∙ c.in_err-count.ensures) in
-    rw (p.1, p.2) (record { read = (e, text_is_refused c.args.most c.args.text.now c.requires.few _ e); beyond = tt })
+    rw (p.1, p.2) (e, text_is_refused c.args.most c.args.text.now c.requires _ e)
 
 pub returns : goal.returns
 returns c =
@@ -49,17 +48,10 @@ returns c =
     let schedule = (λ x. schedule_in (sized x) (sym line x) (rest c.sheet.new.self)) ∙ steps.0 in
     let verdict = text_read most text w (rest reader) (sym start ∙ got.0) ss schedule in
     record {
-      read = record {
-        network = w;
-        after = rest reader;
-        sheet = sym start ∙ got.0;
-        schedule = schedule;
-        sound = subst (λ (n : ℕ). AllByRecursion (SoundStep n) (map timed (take c.in_ok-count.count c.schedule.new.steps))) (sym sized) steps.3;
-        verdict = verdict;
-        whole = text_is_read most text c.requires.few w ss (rest reader) (sym start ∙ got.0) schedule verdict;
-        long = sym (steps_length c.schedule.new.steps c.in_ok-count.count (omega (arith, steps.2)));
-        joined = refl;
-        sized = sym sized;
-      };
-      beyond = steps.4;
+      network = w;
+      verdict = verdict;
+      whole = text_is_read most text c.requires w ss (rest reader) (sym start ∙ got.0) schedule verdict;
+      long = sym (steps_length c.schedule.new.steps c.in_ok-count.count (omega (arith, steps.2)));
+      joined = refl;
+      sized = sym sized;
     }
