@@ -1,7 +1,7 @@
 ghost use Rattle.std.specs.Prelude.{◌≤◌};
 
-// How much there is to rate. The steps themselves are in the array that the caller lent, and only their number is here:
-// firmware has no heap for them.
+// How much there is to rate. The steps themselves stand in an array beside it, as many as a schedule may have, of which
+// this many are read: firmware has no heap for them.
 #[derive(Clone, Copy)]
 pub struct Extent {
     pub steps: usize,
