@@ -1,25 +1,66 @@
-ghost use Rattle.std.specs.Prelude.{◌≡◌, ◌+◌, ◌==◌, if◌then◌else◌, length};
+ghost use Rattle.std.specs.Prelude.{◌≡◌, ◌+◌, ◌-◌, ◌==◌, if◌then◌else◌, length};
 ghost use Rattle.std.specs.Iterator.{at_most};
-ghost use Rattle.trials.specs.declared.cases.Mark.TheVariants.{Whole, Cut, Plain};
+ghost use Rattle.trials.specs.declared.cases.Mark.TheVariants.{Whole, Cut, FewPlaces, LittleSpace, JustSpace, Plain};
 
 use formats::lines::LINE_FEED;
+use network::table::MOST_JUNCTIONS;
 
-// What a case asks for beside its text: `+` the page in full, `-` a text without its last byte, and another letter neither.
+// What a case asks for beside its text.
 #[derive(Clone, Copy, PartialEq, Eq)]
 pub enum Mark {
+    // `+`: the page is shown in full.
     Whole,
+    // `-`: the text is taken without its last byte.
     Cut,
+    // `w`: the workspace has one place too few.
+    FewPlaces,
+    // `<`: the space is one byte shorter than the page.
+    LittleSpace,
+    // `=`: the space is as long as the page.
+    JustSpace,
+    // Any other letter: nothing.
     Plain,
 }
 
 impl From<u8> for Mark {
-    ghost from_gives = { λ letter mark. mark ≡ (if letter == 43 then Whole else (if letter == 45 then Cut else Plain)) };
+    ghost from_gives = { λ letter mark.
+        mark ≡ (if letter == 43 then Whole else
+        (if letter == 45 then Cut else
+        (if letter == 119 then FewPlaces else
+        (if letter == 60 then LittleSpace else
+        (if letter == 61 then JustSpace else Plain))))) };
 
     fn from(letter: u8) -> Mark {
         match letter {
             b'+' => Mark::Whole,
             b'-' => Mark::Cut,
+            b'w' => Mark::FewPlaces,
+            b'<' => Mark::LittleSpace,
+            b'=' => Mark::JustSpace,
             _ => Mark::Plain,
+        }
+    }
+}
+
+impl Mark {
+    // How many workspace places an engine is given.
+    pub(crate) fn places(self) -> usize
+        ensures { elim self [ FewPlaces ↦ result ≡ 63 | _ ↦ result ≡ 64 ] }
+    {
+        match self {
+            Mark::FewPlaces => MOST_JUNCTIONS - 1,
+            _ => MOST_JUNCTIONS,
+        }
+    }
+
+    // How many bytes of a space an engine is given, where the page has so many.
+    pub(crate) fn room(self, space: usize, page: usize) -> usize
+        ensures { elim self [ LittleSpace ↦ result ≡ page - 1 | JustSpace ↦ result ≡ page | _ ↦ result ≡ space ] }
+    {
+        match self {
+            Mark::LittleSpace => page.saturating_sub(1),
+            Mark::JustSpace => page,
+            _ => space,
         }
     }
 }

@@ -1,5 +1,8 @@
 #![tactic(auto)]
 
+ghost use Rattle.std.specs.Prelude.{◌≡◌, ◌==◌};
+ghost use Rattle.std.specs.List.{list_all};
+
 mod cases;
 
 use cases::{Case, Cases, Mark};
@@ -15,46 +18,85 @@ use rating::page::{MOST_PAGE, rate};
 use std::io;
 use std::io::{Read, Write};
 use texts::text::read_sheet;
-use writing::page::{TOTAL_BYTES, fail_line};
+use writing::page::{FAIL_BYTES, TOTAL_BYTES, fail_line};
 use writing::sheet_lines::{MOST_SHEET, try_put_sheet};
 
-// What every byte of a page space holds before a text is rated.
-const UNWRITTEN: u8 = 0;
+// What every byte of a page space holds before a text is rated. No page has such a byte.
+const UNWRITTEN: u8 = b'~';
 
-// Rates a text by a new engine, on a page that held nothing.
+// A text to be rated, with so many workspace places and so many bytes of the space that is there.
+#[derive(Clone, Copy)]
+struct Task<'a> {
+    text: &'a [u8],
+    places: usize,
+    room: usize,
+}
+
+// The length of a text's page; 0 where the text is refused.
+fn length_of_page(text: &[u8], space: &mut [u8]) -> usize {
+    let mut work = [Label::<Fewest>::unreached(); MOST_JUNCTIONS];
+    let mut engine = WarmEngine::<Fewest>::new();
+    rate(&mut engine, text, &mut work, space).unwrap_or(0)
+}
+
+// Rates a text by a new engine, on a space that held nothing.
 fn rate_by<E: Engine + Drop>(
-    text: &[u8],
+    task: &Task,
     work: &mut [E::Place],
-    page: &mut [u8],
+    space: &mut [u8],
 ) -> Result<usize, Refusal> {
     let mut engine = E::new();
-    page.fill(UNWRITTEN);
-    rate(&mut engine, text, work, page)
+    space.fill(UNWRITTEN);
+    let places = task.places.min(work.len());
+    let room = task.room.min(space.len());
+    rate(
+        &mut engine,
+        task.text,
+        &mut work[..places],
+        &mut space[..room],
+    )
 }
 
 // Whether another kind of engine answers and writes the same.
 fn agrees<E: Engine + Drop>(
-    text: &[u8],
+    task: &Task,
     work: &mut [E::Place],
     answer: &Result<usize, Refusal>,
     first: &[u8],
-    page: &mut [u8],
+    space: &mut [u8],
 ) -> bool {
-    rate_by::<E>(text, work, page) == *answer && *first == *page
+    rate_by::<E>(task, work, space) == *answer && *first == *space
 }
 
 // Whether the other three engines answer and write what the first did.
 fn others_agree(
-    text: &[u8],
+    task: &Task,
     answer: &Result<usize, Refusal>,
     first: &[u8],
-    page: &mut [u8],
+    space: &mut [u8],
 ) -> bool {
     let mut few = [Label::<Fewest>::unreached(); MOST_JUNCTIONS];
     let mut wide = [Label::<Widest>::unreached(); MOST_JUNCTIONS];
-    agrees::<WarmEngine<Widest>>(text, &mut wide, answer, first, page)
-        && agrees::<ColdEngine<Fewest>>(text, &mut few, answer, first, page)
-        && agrees::<ColdEngine<Widest>>(text, &mut wide, answer, first, page)
+    agrees::<WarmEngine<Widest>>(task, &mut wide, answer, first, space)
+        && agrees::<ColdEngine<Fewest>>(task, &mut few, answer, first, space)
+        && agrees::<ColdEngine<Widest>>(task, &mut wide, answer, first, space)
+}
+
+// Whether nothing was written there.
+fn is_unwritten(space: &[u8]) -> bool
+    ensures { result ≡ list_all (λ byte. byte == 126) space.now }
+{
+    space.iter().all(|byte| *byte == UNWRITTEN)
+}
+
+// Whether the sheet of a text comes out otherwise when it is written again.
+fn sheet_differs(text: &[u8]) -> Result<bool, Refusal> {
+    let (table, taken) = read_sheet(text, MOST_JUNCTIONS)?;
+    let mut space = [0u8; MOST_SHEET];
+    match try_put_sheet(&mut space, &table) {
+        Ok(length) => Ok(space[..length] != text[..taken]),
+        Err(_) => Ok(true),
+    }
 }
 
 // The page in full, or its length and its last line.
@@ -69,15 +111,20 @@ fn show_page(rt: &HostRuntime, mark: Mark, page: &[u8]) -> io::Result<()> {
     output.write_all(&page[length - TOTAL_BYTES..length])
 }
 
-// Whether a sheet that is read and written again comes out otherwise.
-fn sheet_differs(text: &[u8]) -> bool {
-    let mut space = [0u8; MOST_SHEET];
-    let Ok((table, taken)) = read_sheet(text, MOST_JUNCTIONS) else {
-        return false;
-    };
-    match try_put_sheet(&mut space, &table) {
-        Ok(length) => space[..length] != text[..taken],
-        Err(_) => true,
+// A refusal's line, without the line feed.
+fn show_refusal(rt: &HostRuntime, refusal: &Refusal) -> io::Result<()> {
+    rt.stdout().write_all(&fail_line(refusal)[..FAIL_BYTES - 1])
+}
+
+// What the sheet alone says, if that is not the refusal of the whole text.
+fn show_sheet(rt: &HostRuntime, text: &[u8], refusal: &Refusal) -> io::Result<()> {
+    match read_sheet(text, MOST_JUNCTIONS) {
+        Ok((_, taken)) => print!(rt; ", sheet of {taken} bytes"),
+        Err(other) if other == *refusal => Ok(()),
+        Err(other) => {
+            print!(rt; ", sheet ")?;
+            show_refusal(rt, &other)
+        }
     }
 }
 
@@ -86,22 +133,33 @@ fn try_case(rt: &HostRuntime, case: &Case, first: &mut [u8], second: &mut [u8]) 
     let mut output = rt.stdout();
     output.write_all(case.name)?;
     output.write_all(b": ")?;
+    let length = length_of_page(case.text, first);
+    let task = Task {
+        text: case.text,
+        places: case.mark.places(),
+        room: case.mark.room(first.len(), length),
+    };
     let mut work = [Label::<Fewest>::unreached(); MOST_JUNCTIONS];
-    let answer = rate_by::<WarmEngine<Fewest>>(case.text, &mut work, first);
-    if !others_agree(case.text, &answer, first, second) {
+    let answer = rate_by::<WarmEngine<Fewest>>(&task, &mut work, first);
+    if !others_agree(&task, &answer, first, second) {
         output.write_all(b"THE ENGINES DIFFER\n")?;
     }
+    // an accepted text begins with a sheet
+    if sheet_differs(case.text).unwrap_or(answer.is_ok()) {
+        output.write_all(b"THE SHEET DIFFERS\n")?;
+    }
+    let written = answer.unwrap_or(0).min(first.len());
+    let (page, rest) = first.split_at(written);
+    if !is_unwritten(rest) {
+        output.write_all(b"THE SPACE CHANGED\n")?;
+    }
     match answer {
-        Ok(length) => {
-            if length > first.len() {
-                return output.write_all(b"TOO LONG A PAGE\n");
-            }
-            if sheet_differs(case.text) {
-                output.write_all(b"THE SHEET DIFFERS\n")?;
-            }
-            show_page(rt, case.mark, &first[0..length])
+        Ok(_) => show_page(rt, case.mark, page),
+        Err(refusal) => {
+            show_refusal(rt, &refusal)?;
+            show_sheet(rt, case.text, &refusal)?;
+            output.write_all(b"\n")
         }
-        Err(refusal) => output.write_all(&fail_line(&refusal)),
     }
 }
 
