@@ -1,1 +1,3 @@
 pub mod Rules
+pub mod Spreads
+pub mod Tallies

@@ -1,5 +1,6 @@
-ghost use Rattle.std.specs.Prelude.{◌≡◌, ◌<◌, ◌≤◌, ◌^◌, ◌==◌, Bool, false, not, cond, bit_and, bit_or};
+ghost use Rattle.std.specs.Prelude.{◌≡◌};
 ghost use Rattle.network.specs.Valves.{room};
+ghost use Rattle.random_trials.specs.Spreads.{only, has, widened, spread, governs};
 
 use crate::plan::{Link, Plan};
 use network::report::Report;
@@ -10,23 +11,21 @@ use network::valve::Valve;
 
 // The word with one junction.
 fn only(junction: usize) -> u64
-    ensures inside { junction < 64 → result ≡ 2 ^ junction }
-    ensures beyond { 64 ≤ junction → result ≡ 0 }
+    ensures { result ≡ only junction }
 {
     if junction < 64 { 1u64 << junction } else { 0 }
 }
 
 // Whether the set has a junction.
 fn has(set: u64, junction: usize) -> bool
-    ensures inside { junction < 64 → result ≡ not (bit_and set (2 ^ junction) == 0) }
-    ensures beyond { 64 ≤ junction → result ≡ false }
+    ensures { result ≡ has set junction }
 {
     set & only(junction) != 0
 }
 
 // The set with what a step adds: its end, where the set has its start. Both are words with one junction.
 fn widened(set: u64, start: u64, end: u64) -> u64
-    ensures { result ≡ cond (bit_and set start == 0) set (bit_or set end) }
+    ensures { result ≡ widened set start end }
 {
     if set & start == 0 { set } else { set | end }
 }
@@ -43,7 +42,9 @@ impl Link {
     }
 
     // The set with what the residual steps of the pipe add, taken along their way or against it.
-    fn spread(&self, flow: u32, set: u64, direction: Direction) -> u64 {
+    fn spread(&self, flow: u32, set: u64, direction: Direction) -> u64
+        ensures { result ≡ spread self.now flow set direction }
+    {
         let (from, to) = (only(self.from), only(self.to));
         let (start, end) = match direction {
             Direction::Along => (from, to),
@@ -63,7 +64,9 @@ impl Link {
     }
 
     // Whether the pipe is open, from the near side, to outside the far side.
-    pub fn governs(&self, report: &Report) -> bool {
+    pub fn governs(&self, report: &Report) -> bool
+        ensures { result ≡ governs self.now report.now }
+    {
         self.valve == Valve::Open && has(report.near, self.from) && !has(report.far, self.to)
     }
 }

@@ -1,4 +1,5 @@
-ghost use Rattle.std.specs.Prelude.{◌≡◌, ◌+◌, ◌%◌, ◌^◌, cond, is_ok, OnOk};
+ghost use Rattle.std.specs.Prelude.{◌≡◌, ◌+◌, ◌%◌, ◌^◌, ◌∷◌, ◌++◌, [], cond, is_ok, OnOk};
+ghost use Rattle.random_trials.specs.Tallies.{summed};
 
 use formats::refusal::Refusal;
 use network::report::Report;
@@ -36,6 +37,8 @@ impl Tally {
 }
 
 impl AddAssign for Tally {
+    ghost add_assign_gives = { λ s t sum. sum ≡ summed s t };
+
     fn add_assign(&mut self, more: Tally) {
         self.checks = self.checks.wrapping_add(more.checks);
         self.failures = self.failures.wrapping_add(more.failures);
@@ -59,7 +62,8 @@ impl Log {
         due: Result<(), Refusal>,
         report: Option<Report>,
     ) -> Result<(), AllocError>
-        ensures { OnOk result (self.new.accepted ≡ cond (is_ok due) ((self.old.accepted + 1) % 2 ^ 32) self.old.accepted) }
+        ensures accepted { OnOk result (self.new.accepted ≡ cond (is_ok due) ((self.old.accepted + 1) % 2 ^ 32) self.old.accepted) }
+        ensures noted { OnOk result (self.new.reports.items ≡ self.old.reports.items ++ report ∷ []) }
     {
         match due {
             Ok(()) => self.accepted = self.accepted.wrapping_add(1),
