@@ -9,7 +9,7 @@ use crate::kind::Kind;
 use crate::letters::check_pattern;
 use crate::reader::{Line, Reader};
 use crate::refusal::Refusal;
-use crate::schedule::{MOST_STEPS, TimedPattern};
+use crate::schedule::{MOST_STEPS, Schedule, TimedPattern};
 
 const MOST_MINUTES: usize = 1_440;
 
@@ -95,29 +95,23 @@ impl<'a> Kind<'a> for StepLine {
 }
 
 impl<'a> Reader<'a> {
-    // A schedule for so many pipes, up to the end of the text: its steps go into the first elements, and the answer is
-    // their number, since the array is the caller's and no heap is there. The elements beyond stay.
-    pub fn schedule(
-        &mut self,
-        pipes: usize,
-        steps: &mut [TimedPattern<'a>],
-    ) -> Result<usize, Refusal>
-        requires few { pipes ≤ 512 }
-        requires held { 100 ≤ length steps.old }
+    // A schedule for so many pipes, up to the end of the text.
+    pub fn schedule(&mut self, pipes: usize) -> Result<Schedule<'a>, Refusal>
+        requires { pipes ≤ 512 }
         ensures { elim result [
-          | Ok n ↦ (schedule_in pipes (self.old.lines + 1) (rest self.old) ≡ Ok (map timed (take n steps.new)))
-              × (1 ≤ n) × (n ≤ 100)
-              × AllByRecursion (SoundStep pipes) (map timed (take n steps.new))
-              × (drop n steps.new ≡ drop n steps.old)
+          | Ok s ↦ (schedule_in pipes (self.old.lines + 1) (rest self.old) ≡ Ok (map timed (take s.count s.steps)))
+              × AllByRecursion (SoundStep pipes) (map timed (take s.count s.steps))
               × (length (rest self.new) ≡ 0)
-              × Went (1 + n) self.old self.new
+              × Went (1 + s.count) self.old self.new
           | Err e ↦ schedule_in pipes (self.old.lines + 1) (rest self.old) ≡ Err e
         ] }
     {
         let count = self.read_line(&CountLine)?;
+        // No heap: an array for the most steps, of which those of the schedule are filled.
+        let mut steps = [TimedPattern::UNUSED; MOST_STEPS];
         self.fill(&StepLine { pipes }, &mut steps[..count])?;
         if self.at_end() {
-            Ok(count)
+            Ok(Schedule { steps, count })
         } else {
             Err(Refusal::TrailingBytes(self.lines + 1))
         }

@@ -142,7 +142,7 @@ pub fn rate<E: Engine>(
     if work.len() < most {
         return Err(Refusal::FewPlaces);
     }
-    let (extent, steps) = read_text(text, most)?;
+    let (extent, schedule) = read_text(text, most)?;
     let length = page_length(&extent);
     if page.len() < length {
         return Err(Refusal::LittleSpace);
@@ -153,7 +153,7 @@ pub fn rate<E: Engine>(
         work,
         extent,
     };
-    let total = rater.rate_steps(page, &steps[..extent.steps]);
+    let total = rater.rate_steps(page, &schedule.steps[..schedule.count]);
     put_total(page, length - TOTAL_BYTES, total);
     Ok(length)
 }

@@ -1,7 +1,6 @@
 ghost use Rattle.std.specs.Prelude.{◌≤◌};
 
-// How much there is to rate. The steps themselves stand in an array beside it, as many as a schedule may have, of which
-// this many are read: firmware has no heap for them.
+// How much there is to rate.
 #[derive(Clone, Copy)]
 pub struct Extent {
     pub steps: usize,

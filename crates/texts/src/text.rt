@@ -9,7 +9,7 @@ ghost use Rattle.texts.specs.Texts.{text_in};
 use crate::extent::Extent;
 use formats::reader::Reader;
 use formats::refusal::Refusal;
-use formats::schedule::{MOST_STEPS, TimedPattern};
+use formats::schedule::Schedule;
 use network::table::Table;
 
 // In both calls `most` is the most junctions that the caller takes. A table holds 64, and every engine is proved to take
@@ -35,29 +35,21 @@ pub fn read_sheet(text: &[u8], most: usize) -> Result<(Table, usize), Refusal>
     Ok((table, reader.at))
 }
 
-// Reads the whole text, a sheet and a schedule. The answer is how much there is to rate, and the steps, which are the first
-// elements of the array.
-pub fn read_text<'a>(
-    text: &'a [u8],
-    most: usize,
-) -> Result<(Extent, [TimedPattern<'a>; MOST_STEPS]), Refusal>
+// What the whole text says, a sheet and a schedule: how much there is to rate, and the steps.
+pub fn read_text<'a>(text: &'a [u8], most: usize) -> Result<(Extent, Schedule<'a>), Refusal>
     requires { most ≤ 64 }
     ensures { elim result [
-      | Ok p ↦ Read most text.now (map timed (take p.0.steps p.1)) p.0
+      | Ok p ↦ Read most text.now (map timed (take p.1.count p.1.steps)) p.0
       | Err e ↦ (text_in most text.now ≡ Err e) × TextRefused most text.now e
     ] }
 {
-    let mut steps = [TimedPattern {
-        minutes: 0,
-        letters: b"",
-    }; MOST_STEPS];
     let mut reader = Reader::new(text);
     let table = reader.sheet(most)?;
-    let count = reader.schedule(table.count, &mut steps)?;
+    let schedule = reader.schedule(table.count)?;
     let extent = Extent {
-        steps: count,
+        steps: schedule.count,
         junctions: table.junctions,
         pipes: table.count,
     };
-    Ok((extent, steps))
+    Ok((extent, schedule))
 }
