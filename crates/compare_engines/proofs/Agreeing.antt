@@ -1,6 +1,7 @@
 -- Answers that agree, and calls that are the same.
-use Rattle.std.proofs.Common.{◌≡◌, ℕ, ◌+◌, ◌<◌, ◌≤◌, Bool, eqb, List, [], ◌∷◌, ℤ, vec_items, Decides, Vec, sym, refl, ap, ◌∙◌, subst, inl, inr, arith, w64, SFits, to_z, of_z}
+use Rattle.std.proofs.Common.{◌≡◌, ℕ, ◌+◌, ◌-◌, ◌<◌, ◌≤◌, min, Bool, eqb, List, [], ◌∷◌, length, take, drop, ℤ, vec_items, Decides, Vec, sym, refl, ap, ◌∙◌, subst, inl, inr, arith, w64, SFits, to_z, of_z}
 use mathlib.Core.Bool.{beq}
+use Rattle.std.proofs.lemmas.List.{drop_all, take_rest}
 use Rattle.std.proofs.lemmas.Option.{slice_get_within}
 use Rattle.std.proofs.lemmas.Int.{to_z-of_z}
 use Rattle.std.proofs.lemmas.Bool.{cases_lt}
@@ -77,11 +78,28 @@ sheet_back (both_sheet e) = e
 pub sheets : (m n : ℕ) (u v : Vec ℕ Global) (b : Bool) → m ≡ n → Decides b (vec_items u ≡ vec_items v) → Decides b (Agree (Sheet m u) (Sheet n v))
 sheets m n u v b e = Decides-like b (λ t. subst (λ (x : ℕ). Agree (Sheet m u) (Sheet x v)) e (both_sheet t)) sheet_back
 
-flow_back : {m n : ℕ} {u v : Vec ℕ Global} → Agree (Flow m u) (Flow n v) → m ≡ n
-flow_back both_flow = refl
+drop_min : (n : ℕ) (xs : List ℕ) → drop (min n (length xs)) xs ≡ drop n xs
+drop_min n xs = elim (cases_lt n (length xs)) [
+  | inl l ↦ ap (λ (m : ℕ). drop m xs) (let e : min n (length xs) ≡ n = omega arith in e)
+  | inr l ↦ drop_all (min n (length xs)) xs (omega arith) ∙ sym (drop_all n xs l)
+]
 
-pub flows : (m n : ℕ) (u v : Vec ℕ Global) → Decides (eqb m n) (Agree (Flow m u) (Flow n v))
-flows m n u v = Decides-like _ (λ e. subst (λ (x : ℕ). Agree (Flow m u) (Flow x v)) e both_flow) flow_back (Decides-eqb m n)
+-- two rows that are as long, equal from the n-th number on, or from their end
+pub behind : (b : Bool) (n s : ℕ) (x y : List ℕ) → s ≡ min n (length x) → length x ≡ length y → Decides b (take (length x - s) (drop s x) ≡ take (length y - s) (drop s y)) → Decides b ((length x ≡ length y) × (drop n x ≡ drop n y))
+behind b n s x y e l =
+    let p : take (length x - s) (drop s x) ≡ drop n x = take_rest x s ∙ ap (λ (m : ℕ). drop m x) e ∙ drop_min n x in
+    let q : take (length y - s) (drop s y) ≡ drop n y = take_rest y s ∙ ap (λ (m : ℕ). drop m y) (e ∙ ap (min n) l) ∙ drop_min n y in
+    Decides-like b (λ h. (l, sym p ∙ h ∙ q)) (λ h. p ∙ h.1 ∙ sym q)
+
+pub at_rows : (b : Bool) (n : ℕ) (x x' y y' : List ℕ) → x ≡ x' → y ≡ y' → Decides b ((length x ≡ length y) × (drop n x ≡ drop n y)) → Decides b ((length x' ≡ length y') × (drop n x' ≡ drop n y'))
+at_rows b n x x' y y' p q h =
+    subst (λ (z : List ℕ). Decides b ((length z ≡ length y') × (drop n z ≡ drop n y'))) p (subst (λ (z : List ℕ). Decides b ((length x ≡ length z) × (drop n x ≡ drop n z))) q h)
+
+flow_back : {m n : ℕ} {u v : Vec ℕ Global} → Agree (Flow m u) (Flow n v) → (length (vec_items u) ≡ length (vec_items v)) × (drop m (vec_items u) ≡ drop m (vec_items v))
+flow_back (both_flow l d) = (l, d)
+
+pub flows : (m n : ℕ) (u v : Vec ℕ Global) (b : Bool) → m ≡ n → Decides b ((length (vec_items u) ≡ length (vec_items v)) × (drop m (vec_items u) ≡ drop m (vec_items v))) → Decides b (Agree (Flow m u) (Flow n v))
+flows m n u v b e = Decides-like b (λ t. subst (λ (x : ℕ). Agree (Flow m u) (Flow x v)) e (both_flow t.0 t.1)) flow_back
 
 refused_back : {e f : Refusal} → Agree (Refused e) (Refused f) → e ≡ f
 refused_back both_refused = refl

@@ -1,7 +1,18 @@
-ghost use Rattle.std.specs.Prelude.{Decides};
+ghost use Rattle.std.specs.Prelude.{◌≡◌, length, drop, Decides};
 ghost use Rattle.runs.specs.Agreements.{Agree};
 
 use runs::answer::Answer;
+
+// Whether two rows have the same length, and the same numbers behind the first n.
+fn equal_behind(n: usize, row: &[u32], other: &[u32]) -> bool
+    ensures { Decides result ((length row.now ≡ length other.now) × (drop n row.now ≡ drop n other.now)) }
+{
+    if row.len() != other.len() {
+        return false;
+    }
+    let start = n.min(row.len());
+    row[start..] == other[start..]
+}
 
 // Whether two answers say the same. This is no equality of answers: counts of augmentations and kept flows may differ.
 pub(crate) fn agree(one: &Answer, other: &Answer) -> bool
@@ -13,7 +24,7 @@ pub(crate) fn agree(one: &Answer, other: &Answer) -> bool
         (Answer::Reported(r), Answer::Reported(s)) => r == s,
         (Answer::Governs(b), Answer::Governs(c)) => b == c,
         (Answer::Sheet(m, u), Answer::Sheet(n, v)) => m == n && u == v,
-        (Answer::Flow(m, _), Answer::Flow(n, _)) => m == n,
+        (Answer::Flow(m, u), Answer::Flow(n, v)) => m == n && equal_behind(*m, u, v),
         (Answer::Refused(e), Answer::Refused(f)) => e == f,
         _ => false,
     }

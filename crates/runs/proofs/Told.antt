@@ -31,13 +31,13 @@ use Rattle.runs.specs.declared.call.Request.TheVariants.{Governing, WriteSheet, 
 use Rattle.runs.specs.declared.call.Call.{Call}
 use Rattle.runs.specs.Networks.{accepted, accepted_sheet, next_network, network_after, network_at}
 use Rattle.runs.specs.Runs.{Answers, loads, not_loads, opens, not_opens, closes, not_closes, limits, not_limits, patterns, not_patterns, reports, not_reports, governs, not_governs, writes, not_writes, reads, not_reads, Run, ends, goes, Begun}
-use Rattle.runs.specs.Statements.{Asks, Tells, ReportsCuts, ReadsFlow, WritesSheet, EqualReports, Faithful}
+use Rattle.runs.specs.Statements.{Asks, Tells, AnsweredAt, ReportsCuts, ReadsFlow, WritesSheet, EqualReports, Faithful}
 use Rattle.runs.proofs.Fronts.{front_taken, front_dropped, front_long}
 use Rattle.runs.proofs.Sheets.{only_sheet, sheet_loads}
 use Rattle.runs.proofs.Sounds.{Fits, bare_fits, after_fits}
 
 -- what a verdict accepted
-not_refused : {A : Type 0} (b : Bool) (e : Refusal) (x y : A) → cond {A = Result A Refusal} b (Err e) (Ok x) ≡ Ok y → (b ≡ false) × (x ≡ y)
+pub not_refused : {A : Type 0} (b : Bool) (e : Refusal) (x y : A) → cond {A = Result A Refusal} b (Err e) (Ok x) ≡ Ok y → (b ≡ false) × (x ≡ y)
 not_refused true e x y h = let z : ◌≡◌ {A = ℕ} 0 1 = cc in absurd (omega arith)
 not_refused false e x y h = (refl, cc)
 
@@ -194,54 +194,42 @@ module _ {Λ : Type 0} (most : ℕ) (manner : Manner) (good : Λ → Λ → Type
     here i = after_fits most held room bare (bare_fits most two) (take i cs)
 
     -- call i, and its answer
-    pub record Step (i : ℕ) (a : Answer) : Type 0 where
-      pub call : Call
-      pub kept : List ℕ
-      pub next : Network
-      pub flow : List ℕ
-      pub called : slice_get cs i ≡ Some call
-      pub greatest : Greatest (network_at most room cs i) kept
-      pub answers : Answers most manner good start extended (min call.places room) (network_at most room cs i) kept call.request a next flow
-
-    pub step : (i : ℕ) (a : Answer) → Tells told i a → Step i a
+    pub step : (i : ℕ) (a : Answer) → Tells told i a → AnsweredAt most manner good start extended room cs i a
     unfolding network_at
     step i a e =
         let r = at b.run bare_greatest i a e in
         let l = nth_in told i a e in
         let first : take i (take (length told) cs) ≡ take i cs = take-take i (length told) cs (omega arith) in
+        let called : slice_get cs i ≡ Some r.call = sym (nth_take cs (length told) i l) ∙ r.called in
+        let here : Answers most manner good start extended (min r.call.places room) (network_after most room bare (take i cs)) r.kept r.call.request a r.next r.flow =
+        subst (λ (x : List Call). Answers most manner good start extended (min r.call.places room) (network_after most room bare x) r.kept r.call.request a r.next r.flow) first r.answers in
         record {
           call = r.call;
-          kept = r.kept;
-          next = r.next;
-          flow = r.flow;
-          called = sym (nth_take cs (length told) i l) ∙ r.called;
+          called = called;
+          before = r.kept;
+          after = r.flow;
           greatest = subst (λ (x : List Call). Greatest (network_after most room bare x) r.kept) first r.greatest;
-          answers = subst (λ (x : List Call). Answers most manner good start extended (min r.call.places room) (network_after most room bare x) r.kept r.call.request a r.next r.flow)
-              first r.answers;
+          answers = subst (λ (x : Network). Answers most manner good start extended (min r.call.places room) (network_after most room bare (take i cs)) r.kept r.call.request a x r.flow)
+              (next_is here ∙ sym (after_more most room bare cs i r.call called)) here;
         }
 
     -- its request is known
-    requested : (i : ℕ) (q : Request) (a : Answer) → Asks cs i q → (s : Step i a)
-        → Answers most manner good start extended (min s.call.places room) (network_at most room cs i) s.kept q a s.next s.flow
+    requested : (i : ℕ) (q : Request) (a : Answer) → Asks cs i q → (s : AnsweredAt most manner good start extended room cs i a)
+        → Answers most manner good start extended (min s.call.places room) (network_at most room cs i) s.before q a (network_at most room cs (suc i)) s.after
     requested i q a asks s =
         let c : s.call ≡ asks.0 = cc (s.called, asks.1) in
-        subst (λ (x : Request). Answers most manner good start extended (min s.call.places room) (network_at most room cs i) s.kept x a s.next s.flow)
+        subst (λ (x : Request). Answers most manner good start extended (min s.call.places room) (network_at most room cs i) s.before x a (network_at most room cs (suc i)) s.after)
         (ap (λ (x : Call). x.request) c ∙ asks.2) s.answers
 
-    next_at : (i : ℕ) (a : Answer) → (s : Step i a) → s.next ≡ network_at most room cs (suc i)
-    unfolding network_at
-    next_at i a s = next_is s.answers ∙ sym (after_more most room bare cs i s.call s.called)
-
     refusal_leaves : (i : ℕ) (e : Refusal) → Tells told i (Refused e) → network_at most room cs (suc i) ≡ network_at most room cs i
-    refusal_leaves i e h = let s = step i (Refused e) h in sym (next_at i (Refused e) s) ∙ refused s.answers
+    refusal_leaves i e h = refused (step i (Refused e) h).answers
 
     change_is : (i n : ℕ) (d : ℤ) → Tells told i (Changed d n) → (f g : List ℕ) → Greatest (network_at most room cs i) f → Greatest (network_at most room cs (suc i)) g
         → value (network_at most room cs (suc i)) g ≡ value (network_at most room cs i) f +ℤ d
     change_is i n d h f g old new =
         let w = network_at most room cs i in
         let u = network_at most room cs (suc i) in
-        let s = step i (Changed d n) h in
-        let by : d ≡ change w u = changed s.answers ∙ ap (change w) (next_at i (Changed d n) s) in
+        let by : d ≡ change w u = changed (step i (Changed d n) h).answers in
         added _ _ _ _ _ (by_flow w (here i).0.wired f old).value_is (by_flow u (here (suc i)).0.wired g new).value_is by
 
     report_is : (i : ℕ) (r : report.Report) → Tells told i (Reported r) → report_of (network_at most room cs i) ≡ r
@@ -253,7 +241,7 @@ module _ {Λ : Type 0} (most : ℕ) (manner : Manner) (good : Λ → Λ → Type
         let wired = (here i).0.wired in
         let c = by_cuts w wired in
         subst (λ (x : report.Report). ReportsCuts w x) (report_is i r e)
-        (record { least = c.least; every = c.every; some = c.some; smallest = c.smallest; largest = c.largest; one = one_minimum w wired })
+        (record { is = refl; least = c.least; every = c.every; some = c.some; smallest = c.smallest; largest = c.largest; one = one_minimum w wired })
 
     governs_so : (i k : ℕ) (t : Bool) → Asks cs i (Governing k) → Tells told i (Governs t)
         → Decides t (((pipe (network_at most room cs i) k).valve ≡ valve.TheVariants.Open) × Raises (network_at most room cs i) k)
@@ -270,20 +258,20 @@ module _ {Λ : Type 0} (most : ℕ) (manner : Manner) (good : Λ → Λ → Type
         let s = step i (Flow n v) e in
         let r = read (requested i (ReadFlow row) (Flow n v) asks s) in
         let ok = not_refused (ltb (length row.now) (size w)) LittleSpace (size w) n r.0 in
-        let long : n ≡ length s.kept = sym ok.1 ∙ sym s.greatest.flow.within.each in
-        let taken : s.kept ≡ take n (vec_items v) = sym (front_taken s.kept row.now (vec_items v) r.1 n long) in
+        let long : n ≡ length s.before = sym ok.1 ∙ sym s.greatest.flow.within.each in
+        let taken : s.before ≡ take n (vec_items v) = sym (front_taken s.before row.now (vec_items v) r.1 n long) in
         let fits = ltb-false (length row.now) (size w) ok.0 in
-        let sides = by_flow w (here i).0.wired s.kept s.greatest in
+        let sides = by_flow w (here i).0.wired s.before s.greatest in
         record {
           each = sym ok.1;
           greatest = subst (λ (f : List ℕ). Greatest w f) taken s.greatest;
           near = subst (λ (f : List ℕ). Reached w f w.pump (report_of w).near) taken sides.reached;
           far = subst (λ (f : List ℕ). Apart w f w.outlet (report_of w).far) taken sides.apart;
-          as_long = front_long s.kept row.now (vec_items v) r.1 n long (omega (arith, fits, ok.1));
-          beyond = front_dropped s.kept row.now (vec_items v) r.1 n long;
+          as_long = front_long s.before row.now (vec_items v) r.1 n long (omega (arith, fits, ok.1));
+          beyond = front_dropped s.before row.now (vec_items v) r.1 n long;
         }
 
-    writes_sheet : (i n : ℕ) (space : Bor (List ℕ)) (v : Vec ℕ Global) → Asks cs i (WriteSheet space) → Tells told i (Sheet n v) → WritesSheet most (network_at most room cs i) space.now n (vec_items v)
+    writes_sheet : (i n : ℕ) (space : Bor (List ℕ)) (v : Vec ℕ Global) → Asks cs i (WriteSheet space) → Tells told i (Sheet n v) → WritesSheet (network_at most room cs i) space.now n (vec_items v)
     writes_sheet i n space v asks e =
         let w = network_at most room cs i in
         let s = step i (Sheet n v) e in
@@ -293,8 +281,8 @@ module _ {Λ : Type 0} (most : ℕ) (manner : Manner) (good : Λ → Λ → Type
         let taken : sheet_of w ≡ take n (vec_items v) = sym (front_taken (sheet_of w) space.now (vec_items v) r.1 n long) in
         let fits = ltb-false (length space.now) (length (sheet_of w)) ok.0 in
         record {
-          loads = λ places more l. ap (λ (t : List ℕ). loading most places (t ++ more)) (sym taken) ∙ sheet_loads most held w (here i).0 (here i).1 places more l ∙ ap (λ (m : ℕ). Ok (w, m)) ok.1;
-          only = λ places text m q. let o = only_sheet most held places text w m q in (o.0 ∙ ok.1, o.1 ∙ taken);
+          loads = λ bound places more few within l. ap (λ (t : List ℕ). loading bound places (t ++ more)) (sym taken) ∙ sheet_loads bound within w (here i).0 few places more l ∙ ap (λ (m : ℕ). Ok (w, m)) ok.1;
+          only = λ bound places text m within q. let o = only_sheet bound within places text w m q in (o.0 ∙ ok.1, o.1 ∙ taken);
           as_long = front_long (sheet_of w) space.now (vec_items v) r.1 n long (omega (arith, fits, ok.1));
           beyond = front_dropped (sheet_of w) space.now (vec_items v) r.1 n long;
         }
@@ -302,6 +290,7 @@ module _ {Λ : Type 0} (most : ℕ) (manner : Manner) (good : Λ → Λ → Type
     pub faithful : Faithful most manner good start extended room cs told
     faithful = record {
       begun = b;
+      each = step;
       few = omega (arith, told_each b.run, length-take (length told) cs);
       sound = here;
       refusals = refusal_leaves;

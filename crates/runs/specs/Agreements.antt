@@ -1,5 +1,5 @@
 -- Two engines that are asked the same.
-use Rattle.std.specs.Prelude.{◌≡◌, ℕ, Bool, List, [], ◌∷◌, ℤ, vec_items, Vec}
+use Rattle.std.specs.Prelude.{◌≡◌, ℕ, Bool, List, [], ◌∷◌, length, drop, ℤ, vec_items, Vec}
 use Rattle.std.specs.Borrow.{Bor}
 use Rattle.std.specs.declared.alloc.Global.{Global}
 use Rattle.network.specs.declared.report.Report as report
@@ -31,14 +31,15 @@ pub data SameCalls : List Call → List Call → Type 0 where
   no_more : SameCalls [] []
   and_then : {c d : Call} {cs ds : List Call} → SameCall c d → SameCalls cs ds → SameCalls (c ∷ cs) (d ∷ ds)
 
--- Answers that agree. Two engines may keep different greatest flows, and come to them by more or fewer augmentations; in all else they are equal.
+-- Answers that agree. Two engines may keep different greatest flows, and come to them by more or fewer augmentations; in all else they are equal,
+-- also in the numbers behind a flow.
 pub data Agree : Answer → Answer → Type 0 where
   both_loaded : {n : ℕ} → Agree (Loaded n) (Loaded n)
   both_changed : {d : ℤ} {m n : ℕ} → Agree (Changed d m) (Changed d n)
   both_reported : {r : report.Report} → Agree (Reported r) (Reported r)
   both_governs : {b : Bool} → Agree (Governs b) (Governs b)
   both_sheet : {n : ℕ} {u v : Vec ℕ Global} → vec_items u ≡ vec_items v → Agree (Sheet n u) (Sheet n v)
-  both_flow : {n : ℕ} {u v : Vec ℕ Global} → Agree (Flow n u) (Flow n v)
+  both_flow : {n : ℕ} {u v : Vec ℕ Global} → length (vec_items u) ≡ length (vec_items v) → drop n (vec_items u) ≡ drop n (vec_items v) → Agree (Flow n u) (Flow n v)
   both_refused : {e : Refusal} → Agree (Refused e) (Refused e)
 
 -- of two runs, each call that both answered

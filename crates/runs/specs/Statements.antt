@@ -1,5 +1,5 @@
 -- What the answers of a run say of the networks at its calls, and of their cuts and flows.
-use Rattle.std.specs.Prelude.{◌≡◌, ℕ, suc, ◌≤◌, Bool, ◌↔◌, List, [], ◌++◌, length, take, drop, ℤ, ◌+ℤ◌, Some, Ok, vec_items, Decides, Vec}
+use Rattle.std.specs.Prelude.{◌≡◌, ℕ, suc, ◌≤◌, min, Bool, ◌↔◌, List, [], ◌++◌, length, take, drop, ℤ, ◌+ℤ◌, Some, Ok, vec_items, Decides, Vec}
 use Rattle.std.specs.Borrow.{Bor}
 use Rattle.std.specs.declared.alloc.Global.{Global}
 use Rattle.std.specs.List.{slice_get}
@@ -21,7 +21,7 @@ use Rattle.runs.specs.declared.call.Request.{Request}
 use Rattle.runs.specs.declared.call.Request.TheVariants.{Governing, WriteSheet, ReadFlow}
 use Rattle.runs.specs.declared.call.Call.{Call}
 use Rattle.runs.specs.Networks.{network_at}
-use Rattle.runs.specs.Runs.{Begun}
+use Rattle.runs.specs.Runs.{Answers, Begun}
 
 -- call i makes this request
 abbrev pub Asks : List Call → ℕ → Request → Type 0
@@ -31,8 +31,18 @@ Asks cs i q = (c : Call) × (slice_get cs i ≡ Some c) × (c.request ≡ q)
 abbrev pub Tells : List Answer → ℕ → Answer → Type 0
 Tells answers i a = slice_get answers i ≡ Some a
 
+-- call i gets this answer: it is carried out at the network there and a flow kept so far, which is greatest, and leads to the network at the next call and the flow kept then
+pub record AnsweredAt {Λ : Type 0} (most : ℕ) (manner : Manner) (good : Λ → Λ → Type 0) (start : Λ) (extended : Λ → ℕ → Λ) (room : ℕ) (cs : List Call) (i : ℕ) (a : Answer) : Type 0 where
+  pub call : Call
+  pub called : slice_get cs i ≡ Some call
+  pub before : List ℕ
+  pub after : List ℕ
+  pub greatest : Greatest (network_at most room cs i) before
+  pub answers : Answers most manner good start extended (min call.places room) (network_at most room cs i) before call.request a (network_at most room cs (suc i)) after
+
 -- a report of w, by its minimum cuts: what they let through, the junctions in every one, those in at least one; both sets are minimum cuts
 pub record ReportsCuts (w : Network) (r : report.Report) : Type 0 where
+  pub is : r ≡ report_of w
   pub least : (s : ℕ) → Minimum w s → capacity w s ≡ r.value
   pub every : (k : ℕ) → Decides (has r.near k) (InEvery w k)
   pub some : (k : ℕ) → Decides (has r.far k) (InSome w k)
@@ -50,11 +60,11 @@ pub record ReadsFlow (w : Network) (before : List ℕ) (n : ℕ) (after : List �
   pub as_long : length after ≡ length before
   pub beyond : drop n after ≡ drop n before
 
--- n bytes over the front of a space give back w to an engine of at most so many junctions, whatever follows them; no other bytes do.
+-- n bytes over the front of a space give back w to every engine that takes as many junctions, whatever follows them; no other bytes do.
 -- The bytes beyond are as before.
-pub record WritesSheet (most : ℕ) (w : Network) (before : List ℕ) (n : ℕ) (after : List ℕ) : Type 0 where
-  pub loads : (places : ℕ) (more : List ℕ) → most ≤ places → loading most places (take n after ++ more) ≡ Ok (w, n)
-  pub only : (places : ℕ) (text : List ℕ) (m : ℕ) → loading most places text ≡ Ok (w, m) → (m ≡ n) × (take m text ≡ take n after)
+pub record WritesSheet (w : Network) (before : List ℕ) (n : ℕ) (after : List ℕ) : Type 0 where
+  pub loads : (most places : ℕ) (more : List ℕ) → w.junctions ≤ most → most ≤ 64 → most ≤ places → loading most places (take n after ++ more) ≡ Ok (w, n)
+  pub only : (most places : ℕ) (text : List ℕ) (m : ℕ) → most ≤ 64 → loading most places text ≡ Ok (w, m) → (m ≡ n) × (take m text ≡ take n after)
   pub as_long : length after ≡ length before
   pub beyond : drop n after ≡ drop n before
 
@@ -68,6 +78,7 @@ EqualReports most room cs answers most' room' ds others =
 pub record Faithful {Λ : Type 0} (most : ℕ) (manner : Manner) (good : Λ → Λ → Type 0) (start : Λ) (extended : Λ → ℕ → Λ) (room : ℕ) (cs : List Call) (answers : List Answer) : Type 0 where
   -- call by call
   pub begun : Begun most manner good start extended room bare [] cs answers
+  pub each : (i : ℕ) (a : Answer) → Tells answers i a → AnsweredAt most manner good start extended room cs i a
   pub few : length answers ≤ length cs
   -- the network at each call
   pub sound : (i : ℕ) → Sound (network_at most room cs i) × ((network_at most room cs i).junctions ≤ most)
@@ -84,4 +95,4 @@ pub record Faithful {Λ : Type 0} (most : ℕ) (manner : Manner) (good : Λ → 
   pub flows : (i n : ℕ) (row : Bor (List ℕ)) (v : Vec ℕ Global) → Asks cs i (ReadFlow row) → Tells answers i (Flow n v)
       → ReadsFlow (network_at most room cs i) row.now n (vec_items v)
   pub sheets : (i n : ℕ) (space : Bor (List ℕ)) (v : Vec ℕ Global) → Asks cs i (WriteSheet space) → Tells answers i (Sheet n v)
-      → WritesSheet most (network_at most room cs i) space.now n (vec_items v)
+      → WritesSheet (network_at most room cs i) space.now n (vec_items v)

@@ -1,7 +1,7 @@
 use Rattle.std.proofs.Common.{◌≡◌, Decides, w64, SFits, rules}
 use Rattle.std.proofs.lemmas.Bool.Decides.{Decides-eqb}
 use Rattle.std.proofs.lemmas.Slice.Eq.{slice_eq-Decides}
-use Rattle.compare_engines.proofs.Agreeing.{at, loaded, changed, reported, governs, sheets, flows, refused}
+use Rattle.compare_engines.proofs.Agreeing.{at, at_rows, loaded, changed, reported, governs, sheets, flows, refused}
 use Rattle.compare_engines.proofs.agree.agree.Goals as goal
 
 pub returns-in-Loaded-Loaded : goal.returns-in-Loaded-Loaded
@@ -25,8 +25,10 @@ pub returns-then-m-n : goal.returns-then-m-n
 returns-then-m-n c =
     at _ _ _ _ _ c.in-Sheet-Sheet.is-0 c.in-Sheet-Sheet.is-1 (sheets _ _ _ _ _ c.if-m-n.true (slice_eq-Decides Decides-eqb _ _ _ c.eq-then-m-n.ensures))
 
-pub returns-in-Flow-Flow : goal.returns-in-Flow-Flow
-returns-in-Flow-Flow c = at _ _ _ _ _ c.in-Flow-Flow.is-0 c.in-Flow-Flow.is-1 (flows _ _ _ _)
+pub returns-then-m-n-2 : goal.returns-then-m-n-2
+returns-then-m-n-2 c =
+    let same = at_rows _ _ _ _ _ _ c.deref.ensures.value c.deref-then-m-n-2.ensures.value c.equal_behind.ensures in
+    at _ _ _ _ _ c.in-Flow-Flow.is-0 c.in-Flow-Flow.is-1 (flows _ _ _ _ _ c.if-m-n-2.true same)
 
 pub returns-in-Refused-Refused : goal.returns-in-Refused-Refused
 returns-in-Refused-Refused c =
