@@ -1,5 +1,5 @@
--- Answers that agree, and calls that are the same.
-use Rattle.std.proofs.Common.{◌≡◌, ℕ, ◌+◌, ◌-◌, ◌<◌, ◌≤◌, min, Bool, eqb, List, [], ◌∷◌, length, take, drop, ℤ, vec_items, Decides, Vec, sym, refl, ap, ◌∙◌, subst, inl, inr, arith, w64, SFits, to_z, of_z}
+-- Answers that agree.
+use Rattle.std.proofs.Common.{◌≡◌, ℕ, ◌+◌, ◌-◌, ◌<◌, ◌≤◌, min, Bool, true, false, eqb, List, length, take, drop, ℤ, vec_items, Decides, Vec, sym, refl, ap, ◌∙◌, subst, inl, inr, arith, w64, SFits, to_z, of_z}
 use mathlib.Core.Bool.{beq}
 use Rattle.std.proofs.lemmas.List.{drop_all, take_rest}
 use Rattle.std.proofs.lemmas.Option.{slice_get_within}
@@ -12,32 +12,11 @@ use Rattle.std.specs.List.{slice_get}
 use Rattle.network.specs.declared.report.Report as report
 use Rattle.formats.specs.declared.refusal.Refusal.{Refusal}
 use Rattle.runs.specs.declared.answer.Answer.{Answer}
-use Rattle.runs.specs.declared.answer.Answer.TheVariants.{Loaded, Changed, Reported, Governs, Sheet, Flow, Refused}
-use Rattle.runs.specs.declared.call.Call.{Call}
-use Rattle.runs.specs.declared.call.Request.{Request}
-use Rattle.runs.specs.declared.call.Request.TheVariants.{Load, Open, Close, Limit, Pattern, Report, Governing, WriteSheet, ReadFlow}
-use Rattle.runs.specs.Agreements.{Agree, both_loaded, both_changed, both_reported, both_governs, both_sheet, both_flow, both_refused, SameRequest, both_load, both_open, both_close, both_limit, both_pattern, both_report, both_governing, both_write, both_read, SameCalls, no_more, and_then}
+use Rattle.runs.specs.declared.answer.Answer.TheVariants.{Loaded, Changed, Reported, Governs, Sheet, Flow, Refused, SheetRefused, FlowRefused}
+use Rattle.runs.specs.Agreements.{Agree, both_loaded, both_changed, both_reported, both_governs, both_sheet, both_flow, both_refused, both_sheet_refused, both_flow_refused}
 use Rattle.runs.specs.Statements.{Tells}
 use Rattle.compare_engines.specs.Agreements.{AllAgree, AgreeAt, EachAgrees, answered}
 use Rattle.compare_engines.specs.declared.four.Four.{Four}
-
-same_request : (q : Request) → SameRequest q q
-same_request (Load t) = both_load refl
-same_request (Open k) = both_open
-same_request (Close k) = both_close
-same_request (Limit k l) = both_limit
-same_request (Pattern t) = both_pattern refl
-same_request Report = both_report
-same_request (Governing k) = both_governing
-same_request (WriteSheet t) = both_write refl
-same_request (ReadFlow t) = both_read refl
-
-same_all : (cs : List Call) → SameCalls cs cs
-same_all [] = no_more
-same_all (c ∷ cs) = and_then (record { request = same_request c.request; places = refl }) (same_all cs)
-
-pub same_calls : (cs ds : List Call) → cs ≡ ds → SameCalls cs ds
-same_calls cs ds e = subst (SameCalls cs) e (same_all cs)
 
 -- at two answers that are known
 pub at : (a a' b b' : Answer) (r : Bool) → a ≡ a' → b ≡ b' → Decides r (Agree a' b') → Decides r (Agree a b)
@@ -104,6 +83,30 @@ flows m n u v b e = Decides-like b (λ t. subst (λ (x : ℕ). Agree (Flow m u) 
 refused_back : {e f : Refusal} → Agree (Refused e) (Refused f) → e ≡ f
 refused_back both_refused = refl
 
+sheet_refused_back : {e f : Refusal} {u v : Vec ℕ Global} → Agree (SheetRefused e u) (SheetRefused f v) → vec_items u ≡ vec_items v
+sheet_refused_back (both_sheet_refused t) = t
+
+pub sheets_refused : (e f : Refusal) (u v : Vec ℕ Global) (b : Bool) → e ≡ f → Decides b (vec_items u ≡ vec_items v) → Decides b (Agree (SheetRefused e u) (SheetRefused f v))
+sheets_refused e f u v b p = Decides-like b (λ t. subst (λ (x : Refusal). Agree (SheetRefused e u) (SheetRefused x v)) p (both_sheet_refused t)) sheet_refused_back
+
+sheet_refused_first : {e f : Refusal} {u v : Vec ℕ Global} → Agree (SheetRefused e u) (SheetRefused f v) → e ≡ f
+sheet_refused_first (both_sheet_refused t) = refl
+
+pub sheets_differ : (e f : Refusal) (u v : Vec ℕ Global) (b : Bool) → b ≡ false → Decides b (e ≡ f) → Decides b (Agree (SheetRefused e u) (SheetRefused f v))
+sheets_differ e f u v b n d = Decides-like b (λ t. let h : b ≡ true = d.1 t in let z : ◌≡◌ {A = ℕ} 0 1 = cc in absurd (omega arith)) sheet_refused_first d
+
+flow_refused_back : {e f : Refusal} {u v : Vec ℕ Global} → Agree (FlowRefused e u) (FlowRefused f v) → vec_items u ≡ vec_items v
+flow_refused_back (both_flow_refused t) = t
+
+pub flows_refused : (e f : Refusal) (u v : Vec ℕ Global) (b : Bool) → e ≡ f → Decides b (vec_items u ≡ vec_items v) → Decides b (Agree (FlowRefused e u) (FlowRefused f v))
+flows_refused e f u v b p = Decides-like b (λ t. subst (λ (x : Refusal). Agree (FlowRefused e u) (FlowRefused x v)) p (both_flow_refused t)) flow_refused_back
+
+flow_refused_first : {e f : Refusal} {u v : Vec ℕ Global} → Agree (FlowRefused e u) (FlowRefused f v) → e ≡ f
+flow_refused_first (both_flow_refused t) = refl
+
+pub flows_differ : (e f : Refusal) (u v : Vec ℕ Global) (b : Bool) → b ≡ false → Decides b (e ≡ f) → Decides b (Agree (FlowRefused e u) (FlowRefused f v))
+flows_differ e f u v b n d = Decides-like b (λ t. let h : b ≡ true = d.1 t in let z : ◌≡◌ {A = ℕ} 0 1 = cc in absurd (omega arith)) flow_refused_first d
+
 pub refused : (e f : Refusal) (b : Bool) → Decides b (e ≡ f) → Decides b (Agree (Refused e) (Refused f))
 refused e f b = Decides-like b (λ t. subst (λ (x : Refusal). Agree (Refused e) (Refused x)) t both_refused) refused_back
 
@@ -123,6 +126,6 @@ agree_next ws xs ys zs k w x y z tw tx ty tz all before i l a b c d p q r s = el
 
 -- all calls that four engines answered
 pub agree_all : (f : Four) (n : ℕ) → answered f ≤ n
-    → ((i : ℕ) → i < n → AgreeAt (vec_items f.warm_fewest.answers) (vec_items f.warm_widest.answers) (vec_items f.cold_fewest.answers) (vec_items f.cold_widest.answers) i) → EachAgrees f
+    → ((i : ℕ) → i < n → AgreeAt (vec_items f.warm_fewest) (vec_items f.warm_widest) (vec_items f.cold_fewest) (vec_items f.cold_widest) i) → EachAgrees f
 agree_all f n e before i a b c d p q r s =
-    before i (omega (arith, e, slice_get_within (vec_items f.warm_fewest.answers) i a p, slice_get_within (vec_items f.warm_widest.answers) i b q, slice_get_within (vec_items f.cold_fewest.answers) i c r, slice_get_within (vec_items f.cold_widest.answers) i d s, f.warm_fewest.answers.ok.0, f.warm_widest.answers.ok.0, f.cold_fewest.answers.ok.0, f.cold_widest.answers.ok.0)) a b c d p q r s
+    before i (omega (arith, e, slice_get_within (vec_items f.warm_fewest) i a p, slice_get_within (vec_items f.warm_widest) i b q, slice_get_within (vec_items f.cold_fewest) i c r, slice_get_within (vec_items f.cold_widest) i d s, f.warm_fewest.ok.0, f.warm_widest.ok.0, f.cold_fewest.ok.0, f.cold_widest.ok.0)) a b c d p q r s

@@ -20,12 +20,35 @@ pub(crate) fn agree(one: &Answer, other: &Answer) -> bool
 {
     match (one, other) {
         (Answer::Loaded(m), Answer::Loaded(n)) => m == n,
-        (Answer::Changed(d, _), Answer::Changed(e, _)) => d == e,
+        (Answer::Changed { change: d, .. }, Answer::Changed { change: e, .. }) => d == e,
         (Answer::Reported(r), Answer::Reported(s)) => r == s,
         (Answer::Governs(b), Answer::Governs(c)) => b == c,
-        (Answer::Sheet(m, u), Answer::Sheet(n, v)) => m == n && u == v,
-        (Answer::Flow(m, u), Answer::Flow(n, v)) => m == n && equal_behind(*m, u, v),
+        (
+            Answer::Sheet {
+                length: m,
+                space: u,
+            },
+            Answer::Sheet {
+                length: n,
+                space: v,
+            },
+        ) => m == n && u == v,
+        (Answer::Flow { pipes: m, row: u }, Answer::Flow { pipes: n, row: v }) => {
+            m == n && equal_behind(*m, u, v)
+        }
         (Answer::Refused(e), Answer::Refused(f)) => e == f,
+        (
+            Answer::SheetRefused {
+                refusal: e,
+                space: u,
+            },
+            Answer::SheetRefused {
+                refusal: f,
+                space: v,
+            },
+        ) => e == f && u == v,
+        (Answer::FlowRefused { refusal: e, row: u }, Answer::FlowRefused { refusal: f, row: v }) =>
+            e == f && u == v,
         _ => false,
     }
 }

@@ -14,10 +14,10 @@ use Rattle.formats.specs.Written.{sheet_of}
 use Rattle.interface.specs.Verdicts.{loading, patterning, writing, reading, change}
 use Rattle.interface.specs.Works.{Manner}
 use Rattle.runs.specs.declared.answer.Answer.{Answer}
-use Rattle.runs.specs.declared.answer.Answer.TheVariants.{Loaded, Changed, Reported, Governs, Sheet, Flow, Refused}
+use Rattle.runs.specs.declared.answer.Answer.TheVariants.{Loaded, Changed, Reported, Governs, Sheet, Flow, Refused, SheetRefused, FlowRefused}
 use Rattle.runs.specs.declared.call.Request.{Request}
 use Rattle.runs.specs.declared.call.Call.{Call}
-use Rattle.runs.specs.Agreements.{SameRequest, both_load, both_open, both_close, both_limit, both_pattern, both_report, both_governing, both_write, both_read, SameCall, SameCalls, no_more, and_then, Agree, both_loaded, both_changed, both_reported, both_governs, both_sheet, both_flow, both_refused, AnswersAgree}
+use Rattle.runs.specs.Agreements.{SameRequest, both_load, both_open, both_close, both_limit, both_pattern, both_report, both_governing, both_write, both_read, SameCall, SameCalls, no_more, and_then, Agree, both_loaded, both_changed, both_reported, both_governs, both_sheet, both_flow, both_refused, both_sheet_refused, both_flow_refused, AnswersAgree}
 use Rattle.runs.specs.Networks.{accepted, accepted_sheet, next_network, network_after, network_at}
 use Rattle.runs.specs.Runs.{Answers, loads, not_loads, opens, not_opens, closes, not_closes, limits, not_limits, patterns, not_patterns, reports, not_reports, governs, not_governs, writes, not_writes, reads, not_reads}
 use Rattle.runs.specs.Statements.{Faithful}
@@ -40,6 +40,12 @@ module _ {A : Type 0} {x y : Result A Refusal} (same : x ≡ y) where
 
 refusals : {d e : Refusal} → d ≡ e → Agree (Refused d) (Refused e)
 refusals {d} p = subst (λ (x : Refusal). Agree (Refused d) (Refused x)) p both_refused
+
+sheet_refusals : {d e : Refusal} {u v : Vec ℕ Global} → d ≡ e → vec_items u ≡ vec_items v → Agree (SheetRefused d u) (SheetRefused e v)
+sheet_refusals {d} {e} {u} {v} p q = subst (λ (x : Refusal). Agree (SheetRefused d u) (SheetRefused x v)) p (both_sheet_refused q)
+
+flow_refusals : {d e : Refusal} {u v : Vec ℕ Global} → d ≡ e → vec_items u ≡ vec_items v → Agree (FlowRefused d u) (FlowRefused e v)
+flow_refusals {d} {e} {u} {v} p q = subst (λ (x : Refusal). Agree (FlowRefused d u) (FlowRefused x v)) p (both_flow_refused q)
 
 loadings : {m n : ℕ} → m ≡ n → Agree (Loaded m) (Loaded n)
 loadings {m} p = subst (λ (x : ℕ). Agree (Loaded m) (Loaded x)) p both_loaded
@@ -130,14 +136,14 @@ module _ {Λ Λ' : Type 0} {most : ℕ} {manner manner' : Manner} {good : Λ →
   agree {p} {w} h h' both_governing (not_governs x) (governs y) = err_ok refl x y
   agree {p} {w} h h' both_governing (not_governs x) (not_governs y) = refusals (err_both refl x y)
   agree {p} {w} h h' (both_write t) (writes x d) (writes y e) = writings (ok_both (ap (λ (z : List ℕ). writing (length z) w) t) x y) (d ∙ ap (put_at 0 (sheet_of w)) t ∙ sym e)
-  agree {p} {w} h h' (both_write t) (writes x d) (not_writes y) = ok_err (ap (λ (z : List ℕ). writing (length z) w) t) x y
-  agree {p} {w} h h' (both_write t) (not_writes x) (writes y e) = err_ok (ap (λ (z : List ℕ). writing (length z) w) t) x y
-  agree {p} {w} h h' (both_write t) (not_writes x) (not_writes y) = refusals (err_both (ap (λ (z : List ℕ). writing (length z) w) t) x y)
+  agree {p} {w} h h' (both_write t) (writes x d) (not_writes y e) = ok_err (ap (λ (z : List ℕ). writing (length z) w) t) x y
+  agree {p} {w} h h' (both_write t) (not_writes x d) (writes y e) = err_ok (ap (λ (z : List ℕ). writing (length z) w) t) x y
+  agree {p} {w} h h' (both_write t) (not_writes x d) (not_writes y e) = sheet_refusals (err_both (ap (λ (z : List ℕ). writing (length z) w) t) x y) (d ∙ t ∙ sym e)
   agree {p} {w} {f} {f'} h h' (both_read {s} t) (reads x d) (reads y e) =
-      readings w f f' s.now h h' x (ap (λ (z : List ℕ). reading (length z) w) t ∙ y) d (e ∙ ap (put_at 0 f') (sym t))
-  agree {p} {w} h h' (both_read t) (reads x d) (not_reads y) = ok_err (ap (λ (z : List ℕ). reading (length z) w) t) x y
-  agree {p} {w} h h' (both_read t) (not_reads x) (reads y e) = err_ok (ap (λ (z : List ℕ). reading (length z) w) t) x y
-  agree {p} {w} h h' (both_read t) (not_reads x) (not_reads y) = refusals (err_both (ap (λ (z : List ℕ). reading (length z) w) t) x y)
+      readings w f f' (vec_items s) h h' x (ap (λ (z : List ℕ). reading (length z) w) t ∙ y) d (e ∙ ap (put_at 0 f') (sym t))
+  agree {p} {w} h h' (both_read t) (reads x d) (not_reads y e) = ok_err (ap (λ (z : List ℕ). reading (length z) w) t) x y
+  agree {p} {w} h h' (both_read t) (not_reads x d) (reads y e) = err_ok (ap (λ (z : List ℕ). reading (length z) w) t) x y
+  agree {p} {w} h h' (both_read t) (not_reads x d) (not_reads y e) = flow_refusals (err_both (ap (λ (z : List ℕ). reading (length z) w) t) x y) (d ∙ t ∙ sym e)
 
 pub answers_agree : {Λ Λ' : Type 0} (most : ℕ) (manner : Manner) (good : Λ → Λ → Type 0) (start : Λ) (extended : Λ → ℕ → Λ) (room : ℕ) (cs : List Call) (told : List Answer)
     (most' : ℕ) (manner' : Manner) (good' : Λ' → Λ' → Type 0) (start' : Λ') (extended' : Λ' → ℕ → Λ') (room' : ℕ) (ds : List Call) (told' : List Answer)
