@@ -1,6 +1,7 @@
--- Answers that agree, and calls that are the same.
-use Rattle.std.proofs.Common.{◌≡◌, ℕ, ◌+◌, ◌<◌, ◌≤◌, Bool, eqb, List, [], ◌∷◌, ℤ, vec_items, Decides, Vec, sym, refl, ap, ◌∙◌, subst, inl, inr, arith, w64, SFits, to_z, of_z}
+-- Answers that agree.
+use Rattle.std.proofs.Common.{◌≡◌, ℕ, ◌+◌, ◌-◌, ◌<◌, ◌≤◌, min, Bool, true, false, eqb, List, length, take, drop, ℤ, vec_items, Decides, Vec, sym, refl, ap, ◌∙◌, subst, inl, inr, arith, w64, SFits, to_z, of_z}
 use mathlib.Core.Bool.{beq}
+use Rattle.std.proofs.lemmas.List.{drop_all, take_rest}
 use Rattle.std.proofs.lemmas.Option.{slice_get_within}
 use Rattle.std.proofs.lemmas.Int.{to_z-of_z}
 use Rattle.std.proofs.lemmas.Bool.{cases_lt}
@@ -11,32 +12,11 @@ use Rattle.std.specs.List.{slice_get}
 use Rattle.network.specs.declared.report.Report as report
 use Rattle.formats.specs.declared.refusal.Refusal.{Refusal}
 use Rattle.runs.specs.declared.answer.Answer.{Answer}
-use Rattle.runs.specs.declared.answer.Answer.TheVariants.{Loaded, Changed, Reported, Governs, Sheet, Flow, Refused}
-use Rattle.runs.specs.declared.call.Call.{Call}
-use Rattle.runs.specs.declared.call.Request.{Request}
-use Rattle.runs.specs.declared.call.Request.TheVariants.{Load, Open, Close, Limit, Pattern, Report, Governing, WriteSheet, ReadFlow}
-use Rattle.runs.specs.Agreements.{Agree, both_loaded, both_changed, both_reported, both_governs, both_sheet, both_flow, both_refused, SameRequest, both_load, both_open, both_close, both_limit, both_pattern, both_report, both_governing, both_write, both_read, SameCalls, no_more, and_then}
+use Rattle.runs.specs.declared.answer.Answer.TheVariants.{Loaded, Changed, Reported, Governs, Sheet, Flow, Refused, SheetRefused, FlowRefused}
+use Rattle.runs.specs.Agreements.{Agree, both_loaded, both_changed, both_reported, both_governs, both_sheet, both_flow, both_refused, both_sheet_refused, both_flow_refused}
 use Rattle.runs.specs.Statements.{Tells}
 use Rattle.compare_engines.specs.Agreements.{AllAgree, AgreeAt, EachAgrees, answered}
 use Rattle.compare_engines.specs.declared.four.Four.{Four}
-
-same_request : (q : Request) → SameRequest q q
-same_request (Load t) = both_load refl
-same_request (Open k) = both_open
-same_request (Close k) = both_close
-same_request (Limit k l) = both_limit
-same_request (Pattern t) = both_pattern refl
-same_request Report = both_report
-same_request (Governing k) = both_governing
-same_request (WriteSheet t) = both_write refl
-same_request (ReadFlow t) = both_read refl
-
-same_all : (cs : List Call) → SameCalls cs cs
-same_all [] = no_more
-same_all (c ∷ cs) = and_then (record { request = same_request c.request; places = refl }) (same_all cs)
-
-pub same_calls : (cs ds : List Call) → cs ≡ ds → SameCalls cs ds
-same_calls cs ds e = subst (SameCalls cs) e (same_all cs)
 
 -- at two answers that are known
 pub at : (a a' b b' : Answer) (r : Bool) → a ≡ a' → b ≡ b' → Decides r (Agree a' b') → Decides r (Agree a b)
@@ -77,14 +57,55 @@ sheet_back (both_sheet e) = e
 pub sheets : (m n : ℕ) (u v : Vec ℕ Global) (b : Bool) → m ≡ n → Decides b (vec_items u ≡ vec_items v) → Decides b (Agree (Sheet m u) (Sheet n v))
 sheets m n u v b e = Decides-like b (λ t. subst (λ (x : ℕ). Agree (Sheet m u) (Sheet x v)) e (both_sheet t)) sheet_back
 
-flow_back : {m n : ℕ} {u v : Vec ℕ Global} → Agree (Flow m u) (Flow n v) → m ≡ n
-flow_back both_flow = refl
+drop_min : (n : ℕ) (xs : List ℕ) → drop (min n (length xs)) xs ≡ drop n xs
+drop_min n xs = elim (cases_lt n (length xs)) [
+  | inl l ↦ ap (λ (m : ℕ). drop m xs) (let e : min n (length xs) ≡ n = omega arith in e)
+  | inr l ↦ drop_all (min n (length xs)) xs (omega arith) ∙ sym (drop_all n xs l)
+]
 
-pub flows : (m n : ℕ) (u v : Vec ℕ Global) → Decides (eqb m n) (Agree (Flow m u) (Flow n v))
-flows m n u v = Decides-like _ (λ e. subst (λ (x : ℕ). Agree (Flow m u) (Flow x v)) e both_flow) flow_back (Decides-eqb m n)
+-- two rows that are as long, equal from the n-th number on, or from their end
+pub behind : (b : Bool) (n s : ℕ) (x y : List ℕ) → s ≡ min n (length x) → length x ≡ length y → Decides b (take (length x - s) (drop s x) ≡ take (length y - s) (drop s y)) → Decides b ((length x ≡ length y) × (drop n x ≡ drop n y))
+behind b n s x y e l =
+    let p : take (length x - s) (drop s x) ≡ drop n x = take_rest x s ∙ ap (λ (m : ℕ). drop m x) e ∙ drop_min n x in
+    let q : take (length y - s) (drop s y) ≡ drop n y = take_rest y s ∙ ap (λ (m : ℕ). drop m y) (e ∙ ap (min n) l) ∙ drop_min n y in
+    Decides-like b (λ h. (l, sym p ∙ h ∙ q)) (λ h. p ∙ h.1 ∙ sym q)
+
+pub at_rows : (b : Bool) (n : ℕ) (x x' y y' : List ℕ) → x ≡ x' → y ≡ y' → Decides b ((length x ≡ length y) × (drop n x ≡ drop n y)) → Decides b ((length x' ≡ length y') × (drop n x' ≡ drop n y'))
+at_rows b n x x' y y' p q h =
+    subst (λ (z : List ℕ). Decides b ((length z ≡ length y') × (drop n z ≡ drop n y'))) p (subst (λ (z : List ℕ). Decides b ((length x ≡ length z) × (drop n x ≡ drop n z))) q h)
+
+flow_back : {m n : ℕ} {u v : Vec ℕ Global} → Agree (Flow m u) (Flow n v) → (length (vec_items u) ≡ length (vec_items v)) × (drop m (vec_items u) ≡ drop m (vec_items v))
+flow_back (both_flow l d) = (l, d)
+
+pub flows : (m n : ℕ) (u v : Vec ℕ Global) (b : Bool) → m ≡ n → Decides b ((length (vec_items u) ≡ length (vec_items v)) × (drop m (vec_items u) ≡ drop m (vec_items v))) → Decides b (Agree (Flow m u) (Flow n v))
+flows m n u v b e = Decides-like b (λ t. subst (λ (x : ℕ). Agree (Flow m u) (Flow x v)) e (both_flow t.0 t.1)) flow_back
 
 refused_back : {e f : Refusal} → Agree (Refused e) (Refused f) → e ≡ f
 refused_back both_refused = refl
+
+sheet_refused_back : {e f : Refusal} {u v : Vec ℕ Global} → Agree (SheetRefused e u) (SheetRefused f v) → vec_items u ≡ vec_items v
+sheet_refused_back (both_sheet_refused t) = t
+
+pub sheets_refused : (e f : Refusal) (u v : Vec ℕ Global) (b : Bool) → e ≡ f → Decides b (vec_items u ≡ vec_items v) → Decides b (Agree (SheetRefused e u) (SheetRefused f v))
+sheets_refused e f u v b p = Decides-like b (λ t. subst (λ (x : Refusal). Agree (SheetRefused e u) (SheetRefused x v)) p (both_sheet_refused t)) sheet_refused_back
+
+sheet_refused_first : {e f : Refusal} {u v : Vec ℕ Global} → Agree (SheetRefused e u) (SheetRefused f v) → e ≡ f
+sheet_refused_first (both_sheet_refused t) = refl
+
+pub sheets_differ : (e f : Refusal) (u v : Vec ℕ Global) (b : Bool) → b ≡ false → Decides b (e ≡ f) → Decides b (Agree (SheetRefused e u) (SheetRefused f v))
+sheets_differ e f u v b n d = Decides-like b (λ t. let h : b ≡ true = d.1 t in let z : ◌≡◌ {A = ℕ} 0 1 = cc in absurd (omega arith)) sheet_refused_first d
+
+flow_refused_back : {e f : Refusal} {u v : Vec ℕ Global} → Agree (FlowRefused e u) (FlowRefused f v) → vec_items u ≡ vec_items v
+flow_refused_back (both_flow_refused t) = t
+
+pub flows_refused : (e f : Refusal) (u v : Vec ℕ Global) (b : Bool) → e ≡ f → Decides b (vec_items u ≡ vec_items v) → Decides b (Agree (FlowRefused e u) (FlowRefused f v))
+flows_refused e f u v b p = Decides-like b (λ t. subst (λ (x : Refusal). Agree (FlowRefused e u) (FlowRefused x v)) p (both_flow_refused t)) flow_refused_back
+
+flow_refused_first : {e f : Refusal} {u v : Vec ℕ Global} → Agree (FlowRefused e u) (FlowRefused f v) → e ≡ f
+flow_refused_first (both_flow_refused t) = refl
+
+pub flows_differ : (e f : Refusal) (u v : Vec ℕ Global) (b : Bool) → b ≡ false → Decides b (e ≡ f) → Decides b (Agree (FlowRefused e u) (FlowRefused f v))
+flows_differ e f u v b n d = Decides-like b (λ t. let h : b ≡ true = d.1 t in let z : ◌≡◌ {A = ℕ} 0 1 = cc in absurd (omega arith)) flow_refused_first d
 
 pub refused : (e f : Refusal) (b : Bool) → Decides b (e ≡ f) → Decides b (Agree (Refused e) (Refused f))
 refused e f b = Decides-like b (λ t. subst (λ (x : Refusal). Agree (Refused e) (Refused x)) t both_refused) refused_back
@@ -105,6 +126,6 @@ agree_next ws xs ys zs k w x y z tw tx ty tz all before i l a b c d p q r s = el
 
 -- all calls that four engines answered
 pub agree_all : (f : Four) (n : ℕ) → answered f ≤ n
-    → ((i : ℕ) → i < n → AgreeAt (vec_items f.warm_fewest.answers) (vec_items f.warm_widest.answers) (vec_items f.cold_fewest.answers) (vec_items f.cold_widest.answers) i) → EachAgrees f
+    → ((i : ℕ) → i < n → AgreeAt (vec_items f.warm_fewest) (vec_items f.warm_widest) (vec_items f.cold_fewest) (vec_items f.cold_widest) i) → EachAgrees f
 agree_all f n e before i a b c d p q r s =
-    before i (omega (arith, e, slice_get_within (vec_items f.warm_fewest.answers) i a p, slice_get_within (vec_items f.warm_widest.answers) i b q, slice_get_within (vec_items f.cold_fewest.answers) i c r, slice_get_within (vec_items f.cold_widest.answers) i d s, f.warm_fewest.answers.ok.0, f.warm_widest.answers.ok.0, f.cold_fewest.answers.ok.0, f.cold_widest.answers.ok.0)) a b c d p q r s
+    before i (omega (arith, e, slice_get_within (vec_items f.warm_fewest) i a p, slice_get_within (vec_items f.warm_widest) i b q, slice_get_within (vec_items f.cold_fewest) i c r, slice_get_within (vec_items f.cold_widest) i d s, f.warm_fewest.ok.0, f.warm_widest.ok.0, f.cold_fewest.ok.0, f.cold_widest.ok.0)) a b c d p q r s

@@ -1,3 +1,4 @@
 mod Agreeing
+mod Copying
 mod Growing
 mod Passing

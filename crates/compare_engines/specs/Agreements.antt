@@ -1,8 +1,12 @@
 -- What four engines answered to the same calls.
-use Rattle.std.specs.Prelude.{ℕ, min, List, vec_items, vec_len}
+use Rattle.std.specs.Prelude.{◌≡◌, ℕ, min, List, length, vec_items, vec_len}
+use Rattle.paths.specs.Fews.{few, Fewer, lengthened}
+use Rattle.paths.specs.Widths.{unbounded, Wider, narrowed}
+use Rattle.interface.specs.Works.{Manner, warm, cold}
 use Rattle.runs.specs.declared.answer.Answer.{Answer}
-use Rattle.runs.specs.Agreements.{Agree}
-use Rattle.runs.specs.Statements.{Tells}
+use Rattle.runs.specs.declared.call.Call.{Call}
+use Rattle.runs.specs.Agreements.{Agree, SameCalls}
+use Rattle.runs.specs.Statements.{Tells, Faithful}
 use Rattle.compare_engines.specs.declared.four.Four.{Four}
 use Rattle.compare_engines.specs.declared.four.Told.{Told}
 
@@ -21,13 +25,27 @@ FourAgree xs bs cs ds = (i : ℕ) → AgreeAt xs bs cs ds i
 -- the four answers to call i
 abbrev pub TellsEach : Four → ℕ → Told → Type 0
 TellsEach f i t =
-    Tells (vec_items f.warm_fewest.answers) i t.warm_fewest.now × Tells (vec_items f.warm_widest.answers) i t.warm_widest.now
-    × Tells (vec_items f.cold_fewest.answers) i t.cold_fewest.now × Tells (vec_items f.cold_widest.answers) i t.cold_widest.now
+    Tells (vec_items f.warm_fewest) i t.warm_fewest.now × Tells (vec_items f.warm_widest) i t.warm_widest.now
+    × Tells (vec_items f.cold_fewest) i t.cold_fewest.now × Tells (vec_items f.cold_widest) i t.cold_widest.now
 
 -- how many calls all four answered
 abbrev pub answered : Four → ℕ
-answered f = min (min (vec_len f.warm_fewest.answers) (vec_len f.warm_widest.answers)) (min (vec_len f.cold_fewest.answers) (vec_len f.cold_widest.answers))
+answered f = min (min (vec_len f.warm_fewest) (vec_len f.warm_widest)) (min (vec_len f.cold_fewest) (vec_len f.cold_widest))
 
 -- they agree in each of these
 abbrev pub EachAgrees : Four → Type 0
-EachAgrees f = FourAgree (vec_items f.warm_fewest.answers) (vec_items f.warm_widest.answers) (vec_items f.cold_fewest.answers) (vec_items f.cold_widest.answers)
+EachAgrees f = FourAgree (vec_items f.warm_fewest) (vec_items f.warm_widest) (vec_items f.cold_fewest) (vec_items f.cold_widest)
+
+-- an engine for 64 junctions, with as many workspace places, answered all of these calls
+pub record AnswersAll {Λ : Type 0} (manner : Manner) (good : Λ → Λ → Type 0) (start : Λ) (extended : Λ → ℕ → Λ) (cs : List Call) (answers : List Answer) : Type 0 where
+  pub given : List Call
+  pub same : SameCalls cs given
+  pub faithful : Faithful 64 manner good start extended 64 given answers
+  pub each : length answers ≡ length cs
+
+-- so did all four
+pub record FourAnswer (cs : List Call) (f : Four) : Type 0 where
+  pub warm_fewest : AnswersAll warm Fewer (few 0 unbounded) lengthened cs (vec_items f.warm_fewest)
+  pub warm_widest : AnswersAll warm Wider unbounded narrowed cs (vec_items f.warm_widest)
+  pub cold_fewest : AnswersAll cold Fewer (few 0 unbounded) lengthened cs (vec_items f.cold_fewest)
+  pub cold_widest : AnswersAll cold Wider unbounded narrowed cs (vec_items f.cold_widest)

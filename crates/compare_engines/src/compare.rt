@@ -1,7 +1,10 @@
-ghost use Rattle.std.specs.Prelude.{◌≡◌, ◌≤◌, MatchOption, None, Decides};
-ghost use Rattle.compare_engines.specs.Agreements.{AllAgree, EachAgrees, TellsEach, answered};
+ghost use Rattle.std.specs.Prelude.{◌≡◌, ◌≤◌, length, vec_capacity, MatchOption, None, IfOk, Decides};
+ghost use Rattle.runs.specs.Agreements.{SameCalls};
+ghost use Rattle.compare_engines.specs.Agreements.{AllAgree, EachAgrees, FourAnswer, TellsEach, answered};
+ghost use Rattle.compare_engines.specs.Scripts.{calls_of};
 
 use crate::agree::agree;
+use crate::copies::copy_calls;
 use crate::four::{Four, Told};
 use crate::script::Script;
 use engines::cold::ColdEngine;
@@ -10,48 +13,76 @@ use network::table::MOST_JUNCTIONS;
 use paths::fewest::Fewest;
 use paths::label::Label;
 use paths::widest::Widest;
+use runs::answer::Answer;
+use runs::call::Call;
 use runs::run::run_two;
-use std::alloc::Global;
+use std::alloc::{AllocError, Global};
 
-// The calls of a script, carried out on a new engine of each kind. Two engines are given them at a time.
-fn run_four(heap: Global, script: &Script) -> Four
-    ensures { EachAgrees result }
+// What one engine is run with: a copy of a script's calls, and room for as many answers.
+fn prepare<'a>(
+    heap: Global,
+    script: &Script<'a>,
+) -> Result<(Vec<Call<'a>>, Vec<Answer>), AllocError>
+    ensures same { IfOk result (λ made. SameCalls (calls_of script.now.entries.items) made.0.items) }
+    ensures room { IfOk result (λ made. length made.0.items ≤ vec_capacity made.1) }
 {
+    let calls = copy_calls(heap, &script.entries)?;
+    let answers = Vec::with_capacity(heap, calls.len())?;
+    Ok((calls, answers))
+}
+
+// The calls of a script, carried out on a new engine of each kind. Two engines are given them at a time, a warm and a cold
+// one over the same metric. All memory is got before the first call, so that each engine answers every call.
+fn run_four(heap: Global, script: &Script) -> Result<Four, AllocError>
+    ensures answers { IfOk result (FourAnswer (calls_of script.now.entries.items)) }
+    ensures agree { IfOk result EachAgrees }
+{
+    let (first, mut warm_fewest) = prepare(heap, script)?;
+    let (second, mut cold_fewest) = prepare(heap, script)?;
+    let (third, mut warm_widest) = prepare(heap, script)?;
+    let (fourth, mut cold_widest) = prepare(heap, script)?;
     let mut work = [Label::<Fewest>::unreached(); MOST_JUNCTIONS];
+    let mut spare = [Label::<Fewest>::unreached(); MOST_JUNCTIONS];
+    let (warm, cold) = run_two::<WarmEngine<Fewest>, ColdEngine<Fewest>>(
+        first,
+        &mut work,
+        &mut warm_fewest,
+        second,
+        &mut spare,
+        &mut cold_fewest,
+    );
+    warm.unwrap();
+    cold.unwrap();
+    let mut work = [Label::<Widest>::unreached(); MOST_JUNCTIONS];
     let mut spare = [Label::<Widest>::unreached(); MOST_JUNCTIONS];
-    let (warm_fewest, warm_widest) = run_two::<WarmEngine<Fewest>, WarmEngine<Widest>>(
-        heap,
-        &script.calls,
+    let (warm, cold) = run_two::<WarmEngine<Widest>, ColdEngine<Widest>>(
+        third,
         &mut work,
-        &script.calls,
+        &mut warm_widest,
+        fourth,
         &mut spare,
+        &mut cold_widest,
     );
-    let (cold_fewest, cold_widest) = run_two::<ColdEngine<Fewest>, ColdEngine<Widest>>(
-        heap,
-        &script.calls,
-        &mut work,
-        &script.calls,
-        &mut spare,
-    );
-    Four {
+    warm.unwrap();
+    cold.unwrap();
+    Ok(Four {
         warm_fewest,
         warm_widest,
         cold_fewest,
         cold_widest,
-    }
+    })
 }
 
 impl Four {
-    // What they answered to a call, counted from 0, if all four answered it: each call is answered, unless there was
-    // no memory for an answer.
+    // What they answered to a call, counted from 0, if all four answered it.
     pub(crate) fn told(&self, call: usize) -> Option<Told<'_>>
         ensures { MatchOption result (answered self.now ≤ call) (TellsEach self.now call) }
     {
         Some(Told {
-            warm_fewest: self.warm_fewest.answers.get(call)?,
-            warm_widest: self.warm_widest.answers.get(call)?,
-            cold_fewest: self.cold_fewest.answers.get(call)?,
-            cold_widest: self.cold_widest.answers.get(call)?,
+            warm_fewest: self.warm_fewest.get(call)?,
+            warm_widest: self.warm_widest.get(call)?,
+            cold_fewest: self.cold_fewest.get(call)?,
+            cold_widest: self.cold_widest.get(call)?,
         })
     }
 
@@ -61,7 +92,7 @@ impl Four {
         ensures all { EachAgrees self.now → result ≡ None }
     {
         // By the call's number, since four lists are asked at once, and zips of four would be taken apart as pairs of pairs.
-        for (call, _) in self.warm_fewest.answers.iter().enumerate() {
+        for (call, _) in self.warm_fewest.iter().enumerate() {
             let Some(told) = self.told(call) else {
                 return None;
             };
@@ -83,11 +114,13 @@ impl Told<'_> {
     }
 }
 
-// What four new engines answer to the calls, and the first difference between them: there is none, whatever the calls are.
-pub(crate) fn compare(heap: Global, script: &Script) -> (Four, Option<usize>)
-    ensures { result.1 ≡ None }
+// What four new engines answer to the calls, each of them to every call, and the first difference between them: there is
+// none, whatever the calls are.
+pub(crate) fn compare(heap: Global, script: &Script) -> Result<(Four, Option<usize>), AllocError>
+    ensures answers { IfOk result (λ told. FourAnswer (calls_of script.now.entries.items) told.0) }
+    ensures agree { IfOk result (λ told. told.1 ≡ None) }
 {
-    let four = run_four(heap, script);
+    let four = run_four(heap, script)?;
     let difference = four.difference();
-    (four, difference)
+    Ok((four, difference))
 }

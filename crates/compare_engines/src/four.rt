@@ -1,15 +1,14 @@
 use runs::answer::Answer;
-use runs::run::Ran;
 
-// What the four engines gave: warm and cold ones, by fewest pipes and by widest paths.
+// What the four engines answered: warm and cold ones, by fewest pipes and by widest paths.
 // Fields, and no array of four: clauses and pages speak of each engine by name, and of an array a clause would have to
 // say its length and give a place for each.
 #[derive(Drop)]
 pub struct Four {
-    pub warm_fewest: Ran,
-    pub warm_widest: Ran,
-    pub cold_fewest: Ran,
-    pub cold_widest: Ran,
+    pub warm_fewest: Vec<Answer>,
+    pub warm_widest: Vec<Answer>,
+    pub cold_fewest: Vec<Answer>,
+    pub cold_widest: Vec<Answer>,
 }
 
 // What they answered to one call. It has the same four names in a type of its own: it borrows and is copied, where what the

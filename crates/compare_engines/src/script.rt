@@ -1,11 +1,8 @@
-use formats::reader::Line;
-use runs::call::Call;
+use crate::entry::Entry;
 
-// The calls of a script, the line that each stands on, and the workspace places for those that follow.
-// Calls and lines lie apart, since the engines are given the calls alone, as a slice.
+// What the lines of a script make, and the workspace places for the calls that follow.
 #[derive(Drop)]
 pub struct Script<'a> {
-    pub calls: Vec<Call<'a>>,
-    pub lines: Vec<Line<'a>>,
+    pub entries: Vec<Entry<'a>>,
     pub places: usize,
 }

@@ -2,8 +2,9 @@ ghost use Rattle.std.specs.Prelude.{◌≡◌, ◌+◌, ◌<◌, ◌≤◌, true
 ghost use Rattle.formats.specs.Lines.{ended, first_line};
 ghost use Rattle.formats.specs.Readers.{rest, Advanced};
 ghost use Rattle.compare_engines.specs.Orders.{pipe_follows_in};
-ghost use Rattle.compare_engines.specs.Scripts.{line_in, behind_pipes, behind, placed, Adds, Extends, Stops, Says, Breaks};
+ghost use Rattle.compare_engines.specs.Scripts.{line_in, behind_pipes, behind, entered, Adds, Extends, Stops, Says, Breaks};
 
+use crate::entry::Entry;
 use crate::order::Order;
 use crate::orders::read_order;
 use crate::script::Script;
@@ -62,6 +63,7 @@ fn next_order<'a>(reader: &mut Reader<'a>) -> Result<(Order, Line<'a>), Refusal>
       | Ok p ↦ (line_in (reader.old.lines + 1) (rest reader.old) ≡ Ok p.0)
           × (ended (rest reader.old) ≡ true)
           × (p.1.bytes.now ≡ first_line (rest reader.old))
+          × (p.1.number ≡ reader.old.lines + 1)
           × Advanced reader.old reader.new
       | Err e ↦ line_in (reader.old.lines + 1) (rest reader.old) ≡ Err e
     ] }
@@ -77,30 +79,36 @@ fn next_order<'a>(reader: &mut Reader<'a>) -> Result<(Order, Line<'a>), Refusal>
 impl<'a> Script<'a> {
     // One call more, with the places that stand now.
     fn add(&mut self, request: Request<'a>, line: Line<'a>) -> Result<(), AllocError>
-        ensures calls { OnOk result (self.new.calls.items ≡ self.old.calls.items ++ placed self.old.places request.entry ∷ []) }
+        ensures entries { OnOk result (self.new.entries.items ≡ self.old.entries.items ++ entered self.old.places line.entry request.entry ∷ []) }
         ensures places { self.new.places ≡ self.old.places }
     {
         let places = self.places;
-        self.calls.push(Call { request, places })?;
-        self.lines.push(line)?;
+        let call = Call { request, places };
+        self.entries.push(Entry { call, line })?;
         Ok(())
     }
 
     // The calls that an order makes: a table of the orders, which a closure or an impl for each would only spread.
-    fn obey(&mut self, order: Order, source: Source<'a>) -> Result<(), AllocError>
-        ensures { OnOk result (Adds source.entry.line.bytes.now source.entry.text.now source.entry.space.now source.entry.row.now order self.old self.new) }
+    fn obey(&mut self, heap: Global, order: Order, source: Source<'a>) -> Result<(), AllocError>
+        ensures { OnOk result (Adds source.entry.text.now source.entry.space.now source.entry.row.now source.entry.line order self.old self.new) }
     {
         let line = source.line;
         match order {
             Order::Sheet(_) => self.add(Request::Load(source.text), line),
             Order::Open(pipe) => self.add(Request::Open(pipe), line),
             Order::Close(pipe) => self.add(Request::Close(pipe), line),
-            Order::Limit(pipe, limit) => self.add(Request::Limit(pipe, limit), line),
+            Order::Limit(pipe, limit) => self.add(Request::Limit { pipe, limit }, line),
             Order::Pattern => self.add(Request::Pattern(behind_columns(&line, KIND_COLUMNS)), line),
             Order::Report => self.add(Request::Report, line),
             Order::Governing(pipe) => self.add(Request::Governing(pipe), line),
-            Order::WriteSheet => self.add(Request::WriteSheet(source.space), line),
-            Order::ReadFlow => self.add(Request::ReadFlow(source.row), line),
+            Order::WriteSheet => {
+                let space = source.space.to_vec(heap)?;
+                self.add(Request::WriteSheet(space), line)
+            }
+            Order::ReadFlow => {
+                let row = source.row.to_vec(heap)?;
+                self.add(Request::ReadFlow(row), line)
+            }
             Order::Places(places) => {
                 self.places = places;
                 Ok(())
@@ -116,6 +124,7 @@ impl<'a> Script<'a> {
     // The next line, with the PIPE lines that belong to it.
     fn extend(
         &mut self,
+        heap: Global,
         reader: &mut Reader<'a>,
         space: &'a [u8],
         row: &'a [u32],
@@ -134,12 +143,12 @@ impl<'a> Script<'a> {
             space,
             row,
         };
-        self.obey(order, source)?;
+        self.obey(heap, order, source)?;
         Ok(())
     }
 }
 
-// The calls of a whole text. A call to write a sheet is given this space, and one to read a flow this row.
+// The calls of a whole text. A call to write a sheet is given a copy of this space, and one to read a flow of this row.
 pub(crate) fn read_script<'a>(
     heap: Global,
     text: &'a [u8],
@@ -147,18 +156,17 @@ pub(crate) fn read_script<'a>(
     row: &'a [u32],
 ) -> Result<Script<'a>, Stop>
     ensures { elim result [
-      | Ok s ↦ Says text.now space.now row.now s.calls.items
+      | Ok s ↦ Says text.now space.now row.now s.entries.items
       | Err s ↦ Breaks text.now space.now row.now s
     ] }
 {
     let mut script = Script {
-        calls: Vec::new(heap),
-        lines: Vec::new(heap),
+        entries: Vec::new(heap),
         places: MOST_JUNCTIONS,
     };
     let mut reader = Reader::new(text);
     while !reader.at_end() {
-        script.extend(&mut reader, space, row)?;
+        script.extend(heap, &mut reader, space, row)?;
     }
     Ok(script)
 }

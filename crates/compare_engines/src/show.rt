@@ -1,4 +1,5 @@
-ghost use Rattle.std.specs.Prelude.{◌≤◌};
+ghost use Rattle.std.specs.Prelude.{◌≤◌, length};
+ghost use Rattle.compare_engines.specs.Agreements.{answered};
 
 use crate::four::{Four, Told};
 use crate::script::Script;
@@ -42,8 +43,8 @@ fn show_change(rt: &HostRuntime, change: i64, told: &Told) -> io::Result<()> {
     let sign = if change > 0 { "+" } else { "" };
     print!(rt; "changed {sign}{change}, augmentations")?;
     for (_, answer) in told.each() {
-        if let Answer::Changed(_, count) = answer {
-            print!(rt; " {count}")?;
+        if let Answer::Changed { augmentations, .. } = answer {
+            print!(rt; " {augmentations}")?;
         }
     }
     println!(rt; "")
@@ -73,7 +74,7 @@ fn show_sheet(rt: &HostRuntime, length: usize, space: &[u8]) -> io::Result<()> {
 
 fn show_flow(rt: &HostRuntime, name: &str, answer: &Answer) -> io::Result<()> {
     print!(rt; "     {name}:")?;
-    if let Answer::Flow(pipes, row) = answer {
+    if let Answer::Flow { pipes, row } = answer {
         for litres in row.iter().take(*pipes) {
             print!(rt; " {litres}")?;
         }
@@ -98,13 +99,15 @@ fn show_answer(rt: &HostRuntime, told: &Told, junctions: usize) -> io::Result<()
 {
     match told.warm_fewest {
         Answer::Loaded(length) => println!(rt; "loaded {length} bytes"),
-        Answer::Changed(change, _) => show_change(rt, *change, told),
+        Answer::Changed { change, .. } => show_change(rt, *change, told),
         Answer::Reported(report) => show_report(rt, report, junctions),
         Answer::Governs(true) => println!(rt; "governs"),
         Answer::Governs(false) => println!(rt; "does not govern"),
-        Answer::Sheet(length, space) => show_sheet(rt, *length, space),
-        Answer::Flow(pipes, _) => show_flows(rt, *pipes, told),
-        Answer::Refused(refusal) => {
+        Answer::Sheet { length, space } => show_sheet(rt, *length, space),
+        Answer::Flow { pipes, .. } => show_flows(rt, *pipes, told),
+        Answer::Refused(refusal)
+        | Answer::SheetRefused { refusal, .. }
+        | Answer::FlowRefused { refusal, .. } => {
             let number = refusal.number();
             let line = refusal.line();
             println!(rt; "refused {number}, line {line}")
@@ -130,17 +133,17 @@ fn show_call(rt: &HostRuntime, number: usize, line: &Line) -> io::Result<()> {
 }
 
 // Each call with its answer, in order.
-pub(crate) fn show_calls(rt: &HostRuntime, script: &Script, four: &Four) -> io::Result<()> {
+pub(crate) fn show_calls(rt: &HostRuntime, script: &Script, four: &Four) -> io::Result<()>
+    requires { length script.now.entries.items ≤ answered four.now }
+{
     println!(rt; "augmentations: warm fewest, warm widest, cold fewest, cold widest")?;
     let mut junctions = FEWEST_JUNCTIONS;
-    for (k, line) in script.lines.iter().enumerate() {
-        let Some(told) = four.told(k) else {
-            return println!(rt; "no memory for more answers");
-        };
+    for (k, entry) in script.entries.iter().enumerate() {
+        let told = four.told(k).unwrap();
         if let Answer::Loaded(_) = told.warm_fewest {
-            junctions = junctions_in(line);
+            junctions = junctions_in(&entry.line);
         }
-        show_call(rt, k + 1, line)?;
+        show_call(rt, k + 1, &entry.line)?;
         show_answer(rt, &told, junctions)?;
     }
     Ok(())

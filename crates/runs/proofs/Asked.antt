@@ -1,5 +1,5 @@
 -- One request: what an engine ensured of it, as an answer.
-use Rattle.std.proofs.Common.{◌≡◌, ℕ, List, length, Ok, Err, vec_items, Result, Vec, refl, sym, ap, ◌∙◌, subst, Bor}
+use Rattle.std.proofs.Common.{◌≡◌, ℕ, List, length, Ok, Err, vec_items, Result, Vec, refl, sym, ap, ◌∙◌, subst}
 use Rattle.std.specs.Result.{MatchResult}
 use Rattle.std.specs.declared.alloc.Global.{Global}
 use Rattle.network.specs.Network.{Network}
@@ -9,7 +9,7 @@ use Rattle.formats.specs.Written.{sheet_of}
 use Rattle.interface.specs.Verdicts.{writing, reading}
 use Rattle.interface.specs.Works.{Manner}
 use Rattle.runs.specs.declared.answer.Answer.{Answer}
-use Rattle.runs.specs.declared.answer.Answer.TheVariants.{Sheet, Flow, Refused}
+use Rattle.runs.specs.declared.answer.Answer.TheVariants.{Sheet, Flow, SheetRefused, FlowRefused}
 use Rattle.runs.specs.declared.call.Request.{Request}
 use Rattle.runs.specs.declared.call.Request.TheVariants.{WriteSheet, ReadFlow}
 use Rattle.runs.specs.Runs.{Answers, writes, not_writes, reads, not_reads}
@@ -33,6 +33,10 @@ module _ {Λ : Type 0} {most : ℕ} {manner : Manner} {good : Λ → Λ → Type
       → Answers most manner good start extended p w f q b u g → Answers most manner good start extended p w f q a u g
   at_answer {p} {w} {u} {f} {g} {a} {b} {q} e h = subst (λ (x : Answer). Answers most manner good start extended p w f q x u g) (sym e) h
 
+  pub at_places : {p n : ℕ} {w u : Network} {f g : List ℕ} {a : Answer} {q : Request} → p ≡ n
+      → Answers most manner good start extended p w f q a u g → Answers most manner good start extended n w f q a u g
+  at_places {p} {n} {w} {u} {f} {g} {a} {q} e h = subst (λ (x : ℕ). Answers most manner good start extended x w f q a u g) e h
+
   -- a refused call left the engine
   pub stays : {p : ℕ} {E : Type 0} (meaning : E → Network) (kept : E → List ℕ) (old new : E) {q : Request} {a : Answer} → new ≡ old
       → Answers most manner good start extended p (meaning old) (kept old) q a (meaning old) (kept old)
@@ -40,18 +44,20 @@ module _ {Λ : Type 0} {most : ℕ} {manner : Manner} {good : Λ → Λ → Type
   stays {p} {E} meaning kept old new {q} {a} e h =
       subst (λ (x : E). Answers most manner good start extended p (meaning old) (kept old) q a (meaning x) (kept x)) (sym e) h
 
-  -- a copy of the caller's space was written
-  module _ (p : ℕ) (w : Network) (f : List ℕ) (space : Bor (List ℕ)) (old : List ℕ) (same : old ≡ space.now) where
+  -- the caller's space was lent and written
+  module _ (p : ℕ) (w : Network) (f : List ℕ) (space : Vec ℕ Global) (old : List ℕ) (same : old ≡ vec_items space) where
     pub written : (n : ℕ) (v : Vec ℕ Global) (new : List ℕ) → vec_items v ≡ new → writing (length old) w ≡ Ok n → new ≡ put_at 0 (sheet_of w) old
         → Answers most manner good start extended p w f (WriteSheet space) (Sheet n v) w f
     written n v new i y e = writes (ap (λ (o : List ℕ). writing (length o) w) (sym same) ∙ y) (i ∙ e ∙ ap (put_at 0 (sheet_of w)) same)
 
-    pub not_written : (e : Refusal) → writing (length old) w ≡ Err e → Answers most manner good start extended p w f (WriteSheet space) (Refused e) w f
-    not_written e y = not_writes (ap (λ (o : List ℕ). writing (length o) w) (sym same) ∙ y)
+    pub not_written : (e : Refusal) (v : Vec ℕ Global) (new : List ℕ) → vec_items v ≡ new → writing (length old) w ≡ Err e → new ≡ old
+        → Answers most manner good start extended p w f (WriteSheet space) (SheetRefused e v) w f
+    not_written d v new i y e = not_writes (ap (λ (o : List ℕ). writing (length o) w) (sym same) ∙ y) (i ∙ e ∙ same)
 
     pub read : (n : ℕ) (v : Vec ℕ Global) (new : List ℕ) → vec_items v ≡ new → reading (length old) w ≡ Ok n → new ≡ put_at 0 f old
         → Answers most manner good start extended p w f (ReadFlow space) (Flow n v) w f
     read n v new i y e = reads (ap (λ (o : List ℕ). reading (length o) w) (sym same) ∙ y) (i ∙ e ∙ ap (put_at 0 f) same)
 
-    pub not_read : (e : Refusal) → reading (length old) w ≡ Err e → Answers most manner good start extended p w f (ReadFlow space) (Refused e) w f
-    not_read e y = not_reads (ap (λ (o : List ℕ). reading (length o) w) (sym same) ∙ y)
+    pub not_read : (e : Refusal) (v : Vec ℕ Global) (new : List ℕ) → vec_items v ≡ new → reading (length old) w ≡ Err e → new ≡ old
+        → Answers most manner good start extended p w f (ReadFlow space) (FlowRefused e v) w f
+    not_read d v new i y e = not_reads (ap (λ (o : List ℕ). reading (length o) w) (sym same) ∙ y) (i ∙ e ∙ same)

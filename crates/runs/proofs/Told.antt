@@ -1,5 +1,5 @@
 -- What the answers of a run say.
-use Rattle.std.proofs.Common.{◌≡◌, ℕ, zero, suc, ◌<◌, ◌≤◌, min, Bool, true, false, cond, ltb, ◌↔◌, List, [], ◌∷◌, ◌++◌, length, take, ℤ, pos, ◌+ℤ◌, ◌-ℤ◌, Some, Ok, Err, vec_items, Decides, Result, Vec, sym, refl, ap, ◌∙◌, subst, inl, inr, arith, Bor}
+use Rattle.std.proofs.Common.{◌≡◌, ℕ, zero, suc, ◌<◌, ◌≤◌, min, Bool, true, false, cond, ltb, ◌↔◌, List, [], ◌∷◌, ◌++◌, length, take, ℤ, pos, ◌+ℤ◌, ◌-ℤ◌, Some, Ok, Err, vec_items, Decides, Result, Vec, sym, refl, ap, ◌∙◌, subst, inl, inr, arith}
 use Rattle.std.proofs.lemmas.List.{nil_from_length, take-take, length-take}
 use Rattle.std.proofs.lemmas.Option.{slice_get_past}
 use Rattle.std.proofs.lemmas.Int.{ints}
@@ -25,19 +25,19 @@ use Rattle.formats.specs.Written.{sheet_of}
 use Rattle.interface.specs.Verdicts.{loading, reporting, asking, writing, reading, change}
 use Rattle.interface.specs.Works.{Manner}
 use Rattle.runs.specs.declared.answer.Answer.{Answer}
-use Rattle.runs.specs.declared.answer.Answer.TheVariants.{Changed, Reported, Governs, Sheet, Flow, Refused}
+use Rattle.runs.specs.declared.answer.Answer.TheVariants.{Changed, Reported, Governs, Sheet, Flow, SheetRefused, FlowRefused}
 use Rattle.runs.specs.declared.call.Request.{Request}
 use Rattle.runs.specs.declared.call.Request.TheVariants.{Governing, WriteSheet, ReadFlow}
 use Rattle.runs.specs.declared.call.Call.{Call}
 use Rattle.runs.specs.Networks.{accepted, accepted_sheet, next_network, network_after, network_at}
 use Rattle.runs.specs.Runs.{Answers, loads, not_loads, opens, not_opens, closes, not_closes, limits, not_limits, patterns, not_patterns, reports, not_reports, governs, not_governs, writes, not_writes, reads, not_reads, Run, ends, goes, Begun}
-use Rattle.runs.specs.Statements.{Asks, Tells, ReportsCuts, ReadsFlow, WritesSheet, EqualReports, Faithful}
+use Rattle.runs.specs.Statements.{Asks, Tells, Refuses, refused, sheet_refused, flow_refused, AnsweredAt, ReportsCuts, ReadsFlow, WritesSheet, EqualReports, Faithful}
 use Rattle.runs.proofs.Fronts.{front_taken, front_dropped, front_long}
 use Rattle.runs.proofs.Sheets.{only_sheet, sheet_loads}
 use Rattle.runs.proofs.Sounds.{Fits, bare_fits, after_fits}
 
 -- what a verdict accepted
-not_refused : {A : Type 0} (b : Bool) (e : Refusal) (x y : A) → cond {A = Result A Refusal} b (Err e) (Ok x) ≡ Ok y → (b ≡ false) × (x ≡ y)
+pub not_refused : {A : Type 0} (b : Bool) (e : Refusal) (x y : A) → cond {A = Result A Refusal} b (Err e) (Ok x) ≡ Ok y → (b ≡ false) × (x ≡ y)
 not_refused true e x y h = let z : ◌≡◌ {A = ℕ} 0 1 = cc in absurd (omega arith)
 not_refused false e x y h = (refl, cc)
 
@@ -93,9 +93,9 @@ module _ {Λ : Type 0} {most : ℕ} {manner : Manner} {good : Λ → Λ → Type
   next_is (governs e) = refl
   next_is (not_governs e) = refl
   next_is (writes e d) = refl
-  next_is (not_writes e) = refl
+  next_is (not_writes e d) = refl
   next_is (reads e d) = refl
-  next_is (not_reads e) = refl
+  next_is (not_reads e d) = refl
 
   -- the flow that is kept is greatest
   next_greatest : {p : ℕ} {w u : Network} {f g : List ℕ} {q : Request} {a : Answer} → Answers most manner good start extended p w f q a u g → Greatest w f → Greatest u g
@@ -114,20 +114,20 @@ module _ {Λ : Type 0} {most : ℕ} {manner : Manner} {good : Λ → Λ → Type
   next_greatest (governs e) b = b
   next_greatest (not_governs e) b = b
   next_greatest (writes e d) b = b
-  next_greatest (not_writes e) b = b
+  next_greatest (not_writes e d) b = b
   next_greatest (reads e d) b = b
-  next_greatest (not_reads e) b = b
+  next_greatest (not_reads e d) b = b
 
-  refused : {p : ℕ} {w u : Network} {f g : List ℕ} {q : Request} {e : Refusal} → Answers most manner good start extended p w f q (Refused e) u g → u ≡ w
-  refused (not_loads e) = refl
-  refused (not_opens e) = refl
-  refused (not_closes e) = refl
-  refused (not_limits e) = refl
-  refused (not_patterns e) = refl
-  refused (not_reports e) = refl
-  refused (not_governs e) = refl
-  refused (not_writes e) = refl
-  refused (not_reads e) = refl
+  leaves : {p : ℕ} {w u : Network} {f g : List ℕ} {q : Request} {a : Answer} {e : Refusal} → Refuses a e → Answers most manner good start extended p w f q a u g → u ≡ w
+  leaves refused (not_loads e) = refl
+  leaves refused (not_opens e) = refl
+  leaves refused (not_closes e) = refl
+  leaves refused (not_limits e) = refl
+  leaves refused (not_patterns e) = refl
+  leaves refused (not_reports e) = refl
+  leaves refused (not_governs e) = refl
+  leaves sheet_refused (not_writes e d) = refl
+  leaves flow_refused (not_reads e d) = refl
 
   changed : {p : ℕ} {w u : Network} {f g : List ℕ} {q : Request} {d : ℤ} {n : ℕ} → Answers most manner good start extended p w f q (Changed d n) u g → d ≡ change w u
   changed (opens e d k h) = d
@@ -141,13 +141,19 @@ module _ {Λ : Type 0} {most : ℕ} {manner : Manner} {good : Λ → Λ → Type
   asked : {p : ℕ} {w u : Network} {f g : List ℕ} {k : ℕ} {b : Bool} → Answers most manner good start extended p w f (Governing k) (Governs b) u g → asking most p w k ≡ Ok b
   asked (governs e) = e
 
-  written : {p : ℕ} {w u : Network} {f g : List ℕ} {space : Bor (List ℕ)} {n : ℕ} {v : Vec ℕ Global} → Answers most manner good start extended p w f (WriteSheet space) (Sheet n v) u g
-      → (writing (length space.now) w ≡ Ok n) × (vec_items v ≡ put_at 0 (sheet_of w) space.now)
+  written : {p : ℕ} {w u : Network} {f g : List ℕ} {space v : Vec ℕ Global} {n : ℕ} → Answers most manner good start extended p w f (WriteSheet space) (Sheet n v) u g
+      → (writing (length (vec_items space)) w ≡ Ok n) × (vec_items v ≡ put_at 0 (sheet_of w) (vec_items space))
   written (writes e d) = (e, d)
 
-  read : {p : ℕ} {w u : Network} {f g : List ℕ} {row : Bor (List ℕ)} {n : ℕ} {v : Vec ℕ Global} → Answers most manner good start extended p w f (ReadFlow row) (Flow n v) u g
-      → (reading (length row.now) w ≡ Ok n) × (vec_items v ≡ put_at 0 f row.now)
+  read : {p : ℕ} {w u : Network} {f g : List ℕ} {row v : Vec ℕ Global} {n : ℕ} → Answers most manner good start extended p w f (ReadFlow row) (Flow n v) u g
+      → (reading (length (vec_items row)) w ≡ Ok n) × (vec_items v ≡ put_at 0 f (vec_items row))
   read (reads e d) = (e, d)
+
+  not_written : {p : ℕ} {w u : Network} {f g : List ℕ} {space v : Vec ℕ Global} {e : Refusal} → Answers most manner good start extended p w f (WriteSheet space) (SheetRefused e v) u g → vec_items v ≡ vec_items space
+  not_written (not_writes e d) = d
+
+  not_read : {p : ℕ} {w u : Network} {f g : List ℕ} {row v : Vec ℕ Global} {e : Refusal} → Answers most manner good start extended p w f (ReadFlow row) (FlowRefused e v) u g → vec_items v ≡ vec_items row
+  not_read (not_reads e d) = d
 
 module _ {Λ : Type 0} (most : ℕ) (manner : Manner) (good : Λ → Λ → Type 0) (start : Λ) (extended : Λ → ℕ → Λ) (room : ℕ) where
   -- call i of a run, and its answer
@@ -194,54 +200,42 @@ module _ {Λ : Type 0} (most : ℕ) (manner : Manner) (good : Λ → Λ → Type
     here i = after_fits most held room bare (bare_fits most two) (take i cs)
 
     -- call i, and its answer
-    pub record Step (i : ℕ) (a : Answer) : Type 0 where
-      pub call : Call
-      pub kept : List ℕ
-      pub next : Network
-      pub flow : List ℕ
-      pub called : slice_get cs i ≡ Some call
-      pub greatest : Greatest (network_at most room cs i) kept
-      pub answers : Answers most manner good start extended (min call.places room) (network_at most room cs i) kept call.request a next flow
-
-    pub step : (i : ℕ) (a : Answer) → Tells told i a → Step i a
+    pub step : (i : ℕ) (a : Answer) → Tells told i a → AnsweredAt most manner good start extended room cs i a
     unfolding network_at
     step i a e =
         let r = at b.run bare_greatest i a e in
         let l = nth_in told i a e in
         let first : take i (take (length told) cs) ≡ take i cs = take-take i (length told) cs (omega arith) in
+        let called : slice_get cs i ≡ Some r.call = sym (nth_take cs (length told) i l) ∙ r.called in
+        let here : Answers most manner good start extended (min r.call.places room) (network_after most room bare (take i cs)) r.kept r.call.request a r.next r.flow =
+        subst (λ (x : List Call). Answers most manner good start extended (min r.call.places room) (network_after most room bare x) r.kept r.call.request a r.next r.flow) first r.answers in
         record {
           call = r.call;
-          kept = r.kept;
-          next = r.next;
-          flow = r.flow;
-          called = sym (nth_take cs (length told) i l) ∙ r.called;
+          called = called;
+          before = r.kept;
+          after = r.flow;
           greatest = subst (λ (x : List Call). Greatest (network_after most room bare x) r.kept) first r.greatest;
-          answers = subst (λ (x : List Call). Answers most manner good start extended (min r.call.places room) (network_after most room bare x) r.kept r.call.request a r.next r.flow)
-              first r.answers;
+          answers = subst (λ (x : Network). Answers most manner good start extended (min r.call.places room) (network_after most room bare (take i cs)) r.kept r.call.request a x r.flow)
+              (next_is here ∙ sym (after_more most room bare cs i r.call called)) here;
         }
 
     -- its request is known
-    requested : (i : ℕ) (q : Request) (a : Answer) → Asks cs i q → (s : Step i a)
-        → Answers most manner good start extended (min s.call.places room) (network_at most room cs i) s.kept q a s.next s.flow
+    requested : (i : ℕ) (q : Request) (a : Answer) → Asks cs i q → (s : AnsweredAt most manner good start extended room cs i a)
+        → Answers most manner good start extended (min s.call.places room) (network_at most room cs i) s.before q a (network_at most room cs (suc i)) s.after
     requested i q a asks s =
         let c : s.call ≡ asks.0 = cc (s.called, asks.1) in
-        subst (λ (x : Request). Answers most manner good start extended (min s.call.places room) (network_at most room cs i) s.kept x a s.next s.flow)
+        subst (λ (x : Request). Answers most manner good start extended (min s.call.places room) (network_at most room cs i) s.before x a (network_at most room cs (suc i)) s.after)
         (ap (λ (x : Call). x.request) c ∙ asks.2) s.answers
 
-    next_at : (i : ℕ) (a : Answer) → (s : Step i a) → s.next ≡ network_at most room cs (suc i)
-    unfolding network_at
-    next_at i a s = next_is s.answers ∙ sym (after_more most room bare cs i s.call s.called)
-
-    refusal_leaves : (i : ℕ) (e : Refusal) → Tells told i (Refused e) → network_at most room cs (suc i) ≡ network_at most room cs i
-    refusal_leaves i e h = let s = step i (Refused e) h in sym (next_at i (Refused e) s) ∙ refused s.answers
+    refusal_leaves : (i : ℕ) (a : Answer) (e : Refusal) → Tells told i a → Refuses a e → network_at most room cs (suc i) ≡ network_at most room cs i
+    refusal_leaves i a e h r = leaves r (step i a h).answers
 
     change_is : (i n : ℕ) (d : ℤ) → Tells told i (Changed d n) → (f g : List ℕ) → Greatest (network_at most room cs i) f → Greatest (network_at most room cs (suc i)) g
         → value (network_at most room cs (suc i)) g ≡ value (network_at most room cs i) f +ℤ d
     change_is i n d h f g old new =
         let w = network_at most room cs i in
         let u = network_at most room cs (suc i) in
-        let s = step i (Changed d n) h in
-        let by : d ≡ change w u = changed s.answers ∙ ap (change w) (next_at i (Changed d n) s) in
+        let by : d ≡ change w u = changed (step i (Changed d n) h).answers in
         added _ _ _ _ _ (by_flow w (here i).0.wired f old).value_is (by_flow u (here (suc i)).0.wired g new).value_is by
 
     report_is : (i : ℕ) (r : report.Report) → Tells told i (Reported r) → report_of (network_at most room cs i) ≡ r
@@ -253,7 +247,7 @@ module _ {Λ : Type 0} (most : ℕ) (manner : Manner) (good : Λ → Λ → Type
         let wired = (here i).0.wired in
         let c = by_cuts w wired in
         subst (λ (x : report.Report). ReportsCuts w x) (report_is i r e)
-        (record { least = c.least; every = c.every; some = c.some; smallest = c.smallest; largest = c.largest; one = one_minimum w wired })
+        (record { is = refl; least = c.least; every = c.every; some = c.some; smallest = c.smallest; largest = c.largest; one = one_minimum w wired })
 
     governs_so : (i k : ℕ) (t : Bool) → Asks cs i (Governing k) → Tells told i (Governs t)
         → Decides t (((pipe (network_at most room cs i) k).valve ≡ valve.TheVariants.Open) × Raises (network_at most room cs i) k)
@@ -264,44 +258,45 @@ module _ {Λ : Type 0} (most : ℕ) (manner : Manner) (good : Λ → Λ → Type
         not_beyond (ltb (min s.call.places room) most) (ltb k (size w)) FewPlaces NoSuchPipe (governing w (report_of w) k) t (asked (requested i (Governing k) (Governs t) asks s)) in
         subst (λ (x : Bool). Decides x (((pipe w k).valve ≡ valve.TheVariants.Open) × Raises w k)) same (governing_pipes_of w (here i).0.wired k).flows
 
-    reads_flow : (i n : ℕ) (row : Bor (List ℕ)) (v : Vec ℕ Global) → Asks cs i (ReadFlow row) → Tells told i (Flow n v) → ReadsFlow (network_at most room cs i) row.now n (vec_items v)
+    reads_flow : (i n : ℕ) (row v : Vec ℕ Global) → Asks cs i (ReadFlow row) → Tells told i (Flow n v) → ReadsFlow (network_at most room cs i) (vec_items row) n (vec_items v)
     reads_flow i n row v asks e =
         let w = network_at most room cs i in
         let s = step i (Flow n v) e in
         let r = read (requested i (ReadFlow row) (Flow n v) asks s) in
-        let ok = not_refused (ltb (length row.now) (size w)) LittleSpace (size w) n r.0 in
-        let long : n ≡ length s.kept = sym ok.1 ∙ sym s.greatest.flow.within.each in
-        let taken : s.kept ≡ take n (vec_items v) = sym (front_taken s.kept row.now (vec_items v) r.1 n long) in
-        let fits = ltb-false (length row.now) (size w) ok.0 in
-        let sides = by_flow w (here i).0.wired s.kept s.greatest in
+        let ok = not_refused (ltb (length (vec_items row)) (size w)) LittleSpace (size w) n r.0 in
+        let long : n ≡ length s.before = sym ok.1 ∙ sym s.greatest.flow.within.each in
+        let taken : s.before ≡ take n (vec_items v) = sym (front_taken s.before (vec_items row) (vec_items v) r.1 n long) in
+        let fits = ltb-false (length (vec_items row)) (size w) ok.0 in
+        let sides = by_flow w (here i).0.wired s.before s.greatest in
         record {
           each = sym ok.1;
           greatest = subst (λ (f : List ℕ). Greatest w f) taken s.greatest;
           near = subst (λ (f : List ℕ). Reached w f w.pump (report_of w).near) taken sides.reached;
           far = subst (λ (f : List ℕ). Apart w f w.outlet (report_of w).far) taken sides.apart;
-          as_long = front_long s.kept row.now (vec_items v) r.1 n long (omega (arith, fits, ok.1));
-          beyond = front_dropped s.kept row.now (vec_items v) r.1 n long;
+          as_long = front_long s.before (vec_items row) (vec_items v) r.1 n long (omega (arith, fits, ok.1));
+          beyond = front_dropped s.before (vec_items row) (vec_items v) r.1 n long;
         }
 
-    writes_sheet : (i n : ℕ) (space : Bor (List ℕ)) (v : Vec ℕ Global) → Asks cs i (WriteSheet space) → Tells told i (Sheet n v) → WritesSheet most (network_at most room cs i) space.now n (vec_items v)
+    writes_sheet : (i n : ℕ) (space v : Vec ℕ Global) → Asks cs i (WriteSheet space) → Tells told i (Sheet n v) → WritesSheet (network_at most room cs i) (vec_items space) n (vec_items v)
     writes_sheet i n space v asks e =
         let w = network_at most room cs i in
         let s = step i (Sheet n v) e in
         let r = written (requested i (WriteSheet space) (Sheet n v) asks s) in
-        let ok = not_refused (ltb (length space.now) (length (sheet_of w))) LittleSpace (length (sheet_of w)) n r.0 in
+        let ok = not_refused (ltb (length (vec_items space)) (length (sheet_of w))) LittleSpace (length (sheet_of w)) n r.0 in
         let long : n ≡ length (sheet_of w) = sym ok.1 in
-        let taken : sheet_of w ≡ take n (vec_items v) = sym (front_taken (sheet_of w) space.now (vec_items v) r.1 n long) in
-        let fits = ltb-false (length space.now) (length (sheet_of w)) ok.0 in
+        let taken : sheet_of w ≡ take n (vec_items v) = sym (front_taken (sheet_of w) (vec_items space) (vec_items v) r.1 n long) in
+        let fits = ltb-false (length (vec_items space)) (length (sheet_of w)) ok.0 in
         record {
-          loads = λ places more l. ap (λ (t : List ℕ). loading most places (t ++ more)) (sym taken) ∙ sheet_loads most held w (here i).0 (here i).1 places more l ∙ ap (λ (m : ℕ). Ok (w, m)) ok.1;
-          only = λ places text m q. let o = only_sheet most held places text w m q in (o.0 ∙ ok.1, o.1 ∙ taken);
-          as_long = front_long (sheet_of w) space.now (vec_items v) r.1 n long (omega (arith, fits, ok.1));
-          beyond = front_dropped (sheet_of w) space.now (vec_items v) r.1 n long;
+          loads = λ bound places more few within l. ap (λ (t : List ℕ). loading bound places (t ++ more)) (sym taken) ∙ sheet_loads bound within w (here i).0 few places more l ∙ ap (λ (m : ℕ). Ok (w, m)) ok.1;
+          only = λ bound places text m within q. let o = only_sheet bound within places text w m q in (o.0 ∙ ok.1, o.1 ∙ taken);
+          as_long = front_long (sheet_of w) (vec_items space) (vec_items v) r.1 n long (omega (arith, fits, ok.1));
+          beyond = front_dropped (sheet_of w) (vec_items space) (vec_items v) r.1 n long;
         }
 
     pub faithful : Faithful most manner good start extended room cs told
     faithful = record {
       begun = b;
+      each = step;
       few = omega (arith, told_each b.run, length-take (length told) cs);
       sound = here;
       refusals = refusal_leaves;
@@ -311,6 +306,8 @@ module _ {Λ : Type 0} (most : ℕ) (manner : Manner) (good : Λ → Λ → Type
       governing = governs_so;
       flows = reads_flow;
       sheets = writes_sheet;
+      rows = λ i e row v asks t. not_read (requested i (ReadFlow row) (FlowRefused e v) asks (step i (FlowRefused e v) t));
+      spaces = λ i e space v asks t. not_written (requested i (WriteSheet space) (SheetRefused e v) asks (step i (SheetRefused e v) t));
     }
 
 -- the calls that a new engine was begun with

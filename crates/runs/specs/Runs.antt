@@ -13,12 +13,13 @@ use Rattle.formats.specs.Written.{sheet_of}
 use Rattle.interface.specs.Verdicts.{loading, opening, closing, limiting, patterning, reporting, asking, writing, reading, change}
 use Rattle.interface.specs.Works.{loaded, opened, closed, limited, lettered, Manner, Works}
 use Rattle.runs.specs.declared.answer.Answer.{Answer}
-use Rattle.runs.specs.declared.answer.Answer.TheVariants.{Loaded, Changed, Reported, Governs, Sheet, Flow, Refused}
+use Rattle.runs.specs.declared.answer.Answer.TheVariants.{Loaded, Changed, Reported, Governs, Sheet, Flow, Refused, SheetRefused, FlowRefused}
 use Rattle.runs.specs.declared.call.Request.{Request}
 use Rattle.runs.specs.declared.call.Request.TheVariants.{Load, Open, Close, Limit, Pattern, Report, Governing, WriteSheet, ReadFlow}
 use Rattle.runs.specs.declared.call.Call.{Call}
 
 -- A request at w and f, given so many places, gets this answer and leaves the network and the flow that stand last. A refused one leaves both.
+-- A space or a row that comes with a request goes back with the answer: written over, or as it was.
 pub data Answers {Λ : Type 0} (most : ℕ) (manner : Manner) (good : Λ → Λ → Type 0) (start : Λ) (extended : Λ → ℕ → Λ) (places : ℕ) : Network → List ℕ → Request → Answer → Network → List ℕ → Type 0 where
   loads : {w u : Network} {f g : List ℕ} {text : Bor (List ℕ)} {n : ℕ} (m : ℕ)
       → loading most places text.now ≡ Ok (u, n) → Works manner good start extended w f (loaded u) m g → Greatest u g
@@ -62,18 +63,18 @@ pub data Answers {Λ : Type 0} (most : ℕ) (manner : Manner) (good : Λ → Λ 
   not_governs : {w : Network} {f : List ℕ} {k : ℕ} {e : Refusal}
       → asking most places w k ≡ Err e
       → Answers most manner good start extended places w f (Governing k) (Refused e) w f
-  writes : {w : Network} {f : List ℕ} {space : Bor (List ℕ)} {n : ℕ} {v : Vec ℕ Global}
-      → writing (length space.now) w ≡ Ok n → vec_items v ≡ put_at 0 (sheet_of w) space.now
+  writes : {w : Network} {f : List ℕ} {space v : Vec ℕ Global} {n : ℕ}
+      → writing (length (vec_items space)) w ≡ Ok n → vec_items v ≡ put_at 0 (sheet_of w) (vec_items space)
       → Answers most manner good start extended places w f (WriteSheet space) (Sheet n v) w f
-  not_writes : {w : Network} {f : List ℕ} {space : Bor (List ℕ)} {e : Refusal}
-      → writing (length space.now) w ≡ Err e
-      → Answers most manner good start extended places w f (WriteSheet space) (Refused e) w f
-  reads : {w : Network} {f : List ℕ} {row : Bor (List ℕ)} {n : ℕ} {v : Vec ℕ Global}
-      → reading (length row.now) w ≡ Ok n → vec_items v ≡ put_at 0 f row.now
+  not_writes : {w : Network} {f : List ℕ} {space v : Vec ℕ Global} {e : Refusal}
+      → writing (length (vec_items space)) w ≡ Err e → vec_items v ≡ vec_items space
+      → Answers most manner good start extended places w f (WriteSheet space) (SheetRefused e v) w f
+  reads : {w : Network} {f : List ℕ} {row v : Vec ℕ Global} {n : ℕ}
+      → reading (length (vec_items row)) w ≡ Ok n → vec_items v ≡ put_at 0 f (vec_items row)
       → Answers most manner good start extended places w f (ReadFlow row) (Flow n v) w f
-  not_reads : {w : Network} {f : List ℕ} {row : Bor (List ℕ)} {e : Refusal}
-      → reading (length row.now) w ≡ Err e
-      → Answers most manner good start extended places w f (ReadFlow row) (Refused e) w f
+  not_reads : {w : Network} {f : List ℕ} {row v : Vec ℕ Global} {e : Refusal}
+      → reading (length (vec_items row)) w ≡ Err e → vec_items v ≡ vec_items row
+      → Answers most manner good start extended places w f (ReadFlow row) (FlowRefused e v) w f
 
 -- Calls with their answers, one after the other, from a network and a flow to those after the last. There is a workspace of so many places:
 -- a call is given as many as it asks for, or all.

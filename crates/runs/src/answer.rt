@@ -6,13 +6,15 @@ use network::report::Report;
 pub enum Answer {
     // The number of bytes taken.
     Loaded(usize),
-    // The change of the greatest value, and the number of augmentations.
-    Changed(i64, u32),
+    Changed { change: i64, augmentations: u32 },
     Reported(Report),
     Governs(bool),
-    // The length of the sheet, and what the space holds after, which may be more than the sheet.
-    Sheet(usize, Vec<u8>),
-    // The number of pipes, and what the row holds after, which may be more.
-    Flow(usize, Vec<u32>),
+    // The space of the call, over the front of which the sheet was written.
+    Sheet { length: usize, space: Vec<u8> },
+    // The row of the call, over the front of which the flow was written.
+    Flow { pipes: usize, row: Vec<u32> },
     Refused(Refusal),
+    // A writing or a reading is refused with its space or row, which hold what they held.
+    SheetRefused { refusal: Refusal, space: Vec<u8> },
+    FlowRefused { refusal: Refusal, row: Vec<u32> },
 }

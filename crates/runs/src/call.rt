@@ -1,21 +1,20 @@
-// What an engine is asked.
-#[derive(Clone, Copy)]
+// What an engine is asked. A request owns the memory that is to be written to, and the answer takes it over, so that
+// no memory is wanted for answering.
+#[derive(Drop)]
 pub enum Request<'a> {
     Load(&'a [u8]),
     Open(usize),
     Close(usize),
-    // A pipe, and its new limit.
-    Limit(usize, u32),
+    Limit { pipe: usize, limit: u32 },
     Pattern(&'a [u8]),
     Report,
     Governing(usize),
-    // What the space holds before.
-    WriteSheet(&'a [u8]),
-    ReadFlow(&'a [u32]),
+    WriteSheet(Vec<u8>),
+    ReadFlow(Vec<u32>),
 }
 
 // A request, with the number of workspace places that it is given.
-#[derive(Clone, Copy)]
+#[derive(Drop)]
 pub struct Call<'a> {
     pub request: Request<'a>,
     pub places: usize,

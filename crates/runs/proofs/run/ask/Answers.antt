@@ -1,4 +1,4 @@
-use Rattle.std.proofs.Common.{◌≡◌, length, vec_items, sym, ◌∙◌, arith, rules}
+use Rattle.std.proofs.Common.{◌≡◌, length, sym, ◌∙◌, arith}
 use Rattle.std.proofs.lemmas.List.{with_items_is}
 use Rattle.runs.specs.Runs.{loads, not_loads, opens, not_opens, closes, not_closes, limits, not_limits, patterns, not_patterns, reports, not_reports, governs, not_governs}
 use Rattle.runs.proofs.Asked.{told, answered, at_request, at_answer, stays, written, not_written, read, not_read}
@@ -41,30 +41,24 @@ returns-in-Governing g c = answered c.governing-told.result _ _ c.map_or_else-in
 
 pub returns-in-Ok : goal.returns-in-Ok
 returns-in-Ok g c =
-    let same : vec_items c.in_ok-space-in-WriteSheet.space ≡ c.in-WriteSheet.old.now = search rules in
     let e = c.in-Ok.ensures in
-    let n : length c.write_sheet.new.space ≡ c.in_ok-space-in-WriteSheet.space.len = omega (arith, c.deref_mut.ensures.len) in
-    at_request c.in-WriteSheet.is
-    (written _ _ _ c.in-WriteSheet.old c.deref_mut.result.now (c.deref_mut.ensures.value ∙ same) _ _ c.write_sheet.new.space
-    (with_items_is c.in_ok-space-in-WriteSheet.space c.write_sheet.new.space n) e.0 e.1)
+    let n : length c.write_sheet.new.space ≡ c.in-WriteSheet.space.len = omega (arith, c.deref_mut.ensures.len) in
+    at_request c.in-WriteSheet.is (written _ _ _ c.in-WriteSheet.space c.deref_mut.result.now c.deref_mut.ensures.value _ _ c.write_sheet.new.space (with_items_is c.in-WriteSheet.space c.write_sheet.new.space n) e.0 e.1)
 
 pub returns-in-Err : goal.returns-in-Err
 returns-in-Err g c =
-    let same : vec_items c.in_ok-space-in-WriteSheet.space ≡ c.in-WriteSheet.old.now = search rules in
     let e = c.in-Err.ensures in
-    at_request c.in-WriteSheet.is (not_written _ _ _ c.in-WriteSheet.old c.deref_mut.result.now (c.deref_mut.ensures.value ∙ same) _ e.0)
+    let n : length c.write_sheet.new.space ≡ c.in-WriteSheet.space.len = omega (arith, c.deref_mut.ensures.len) in
+    at_request c.in-WriteSheet.is (not_written _ _ _ c.in-WriteSheet.space c.deref_mut.result.now c.deref_mut.ensures.value _ _ c.write_sheet.new.space (with_items_is c.in-WriteSheet.space c.write_sheet.new.space n) e.0 e.1)
 
 pub returns-in-Ok-read_flow : goal.returns-in-Ok-read_flow
 returns-in-Ok-read_flow g c =
-    let same : vec_items c.in_ok-row-in-ReadFlow.row ≡ c.in-ReadFlow.old.now = search rules in
     let e = c.in-Ok-read_flow.ensures in
-    let n : length c.read_flow.new.row ≡ c.in_ok-row-in-ReadFlow.row.len = omega (arith, c.deref_mut-in-ReadFlow.ensures.len) in
-    at_request c.in-ReadFlow.is
-    (read _ _ _ c.in-ReadFlow.old c.deref_mut-in-ReadFlow.result.now (c.deref_mut-in-ReadFlow.ensures.value ∙ same) _ _ c.read_flow.new.row
-    (with_items_is c.in_ok-row-in-ReadFlow.row c.read_flow.new.row n) e.0 e.1)
+    let n : length c.read_flow.new.row ≡ c.in-ReadFlow.row.len = omega (arith, c.deref_mut-in-ReadFlow.ensures.len) in
+    at_request c.in-ReadFlow.is (read _ _ _ c.in-ReadFlow.row c.deref_mut-in-ReadFlow.result.now c.deref_mut-in-ReadFlow.ensures.value _ _ c.read_flow.new.row (with_items_is c.in-ReadFlow.row c.read_flow.new.row n) e.0 e.1)
 
 pub returns-in-Err-read_flow : goal.returns-in-Err-read_flow
 returns-in-Err-read_flow g c =
-    let same : vec_items c.in_ok-row-in-ReadFlow.row ≡ c.in-ReadFlow.old.now = search rules in
     let e = c.in-Err-read_flow.ensures in
-    at_request c.in-ReadFlow.is (not_read _ _ _ c.in-ReadFlow.old c.deref_mut-in-ReadFlow.result.now (c.deref_mut-in-ReadFlow.ensures.value ∙ same) _ e.0)
+    let n : length c.read_flow.new.row ≡ c.in-ReadFlow.row.len = omega (arith, c.deref_mut-in-ReadFlow.ensures.len) in
+    at_request c.in-ReadFlow.is (not_read _ _ _ c.in-ReadFlow.row c.deref_mut-in-ReadFlow.result.now c.deref_mut-in-ReadFlow.ensures.value _ _ c.read_flow.new.row (with_items_is c.in-ReadFlow.row c.read_flow.new.row n) e.0 e.1)

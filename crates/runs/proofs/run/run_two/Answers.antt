@@ -12,4 +12,6 @@ returns g c = record {
   other_whole = c.run-other.ensures.whole;
   short = c.run-one.ensures.short;
   other_short = c.run-other.ensures.short;
+  room = c.run-one.ensures.room;
+  other_room = c.run-other.ensures.room;
 }
