@@ -34,9 +34,10 @@ fn step_length(extent: &Extent) -> usize
     extent.junctions + extent.pipes + STEP_BYTES
 }
 
-// The bytes of the page.
+// The bytes of the page. None is longer than the longest.
 pub fn page_length(extent: &Extent) -> usize
-    ensures { result ≡ page_length_of extent.now.steps extent.now.junctions extent.now.pipes }
+    ensures length { result ≡ page_length_of extent.now.steps extent.now.junctions extent.now.pipes }
+    ensures most { result ≤ MOST_PAGE }
 {
     extent.steps * step_length(extent) + TOTAL_BYTES
 }

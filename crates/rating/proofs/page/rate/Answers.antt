@@ -32,4 +32,4 @@ returns g c =
     let load : loading g.E.Engine.MOST_JUNCTIONS (length c.args.work.now) c.args.text.now ≡ Ok (g.E.Engine.meaning c.load.new.self, c.unwrap.result) = (simp c.unwrap.ensures at c.load.ensures).0 in
     page_is g.E.Engine.MOST_JUNCTIONS (length c.args.work.now) c.args.text.now (length c.args.page.now) (omega arith) c.MOST_JUNCTIONS-most.result (map timed (take c.in_ok-extent.schedule.count c.in_ok-extent.schedule.steps)) c.in_ok-extent.extent
     c.MOST_JUNCTIONS-most.ensures c.in_ok-extent.ensures (g.E.Engine.meaning c.load.new.self) _ c.unwrap.result c.args.page.now c.rate_steps-total.new.page c.put_total.new.space c.rate_steps-total.result c.page_length-length.result
-    load (search rules) c.rate_steps-total.ensures.written c.rate_steps-total.ensures.total c.page_length-length.ensures c.put_total.ensures (omega arith)
+    load (search rules) c.rate_steps-total.ensures.written c.rate_steps-total.ensures.total c.page_length-length.ensures.length c.put_total.ensures (omega arith)
