@@ -12,11 +12,8 @@ use Rattle.network.specs.Residual.{nowhere, pipe, size, carried}
 use Rattle.network.proofs.TableFacts.{table_size, table_within}
 use Rattle.formats.specs.declared.setting.Setting.{Setting}
 use Rattle.formats.specs.Letters.{setting_of}
-use Rattle.interface.specs.Verdicts.{set_by, lettered, patterned}
+use Rattle.interface.specs.Verdicts.{set_by, each_set_by, patterned}
 use Rattle.augmenting.specs.Settings.{valve_by}
-
-pub same_count : (t u : Table) → network_of t ≡ network_of u → t.count ≡ u.count
-same_count t u e = sym (table_size t) ∙ ap size e ∙ table_size u
 
 -- pipes that carry nothing are dry
 pub all_dry : (t : Table) → ((i : ℕ) → i < t.count → carried (flow_of t) i ≡ 0) → flow_of t ≡ dry (network_of t)
@@ -30,7 +27,7 @@ pub set_is : (o : Option Setting) (p : Pipe) → with_valve (with_limit p p.limi
 set_is None p = refl
 set_is (Some s) p = refl
 
-pub lettered_length : (bs : List ℕ) (ps : List Pipe) → length (lettered bs ps) ≡ length ps
+pub lettered_length : (bs : List ℕ) (ps : List Pipe) → length (each_set_by bs ps) ≡ length ps
 lettered_length [] ps = refl
 lettered_length (b ∷ bs) [] = refl
 lettered_length (b ∷ bs) (p ∷ ps) = ap suc (lettered_length bs ps)
@@ -39,13 +36,13 @@ pub set_count : (t u : Table) (bs : List ℕ) → network_of t ≡ patterned (ne
 set_count t u bs e = sym (table_size t) ∙ ap size e ∙ lettered_length bs (network_of u).pipes ∙ table_size u
 
 -- the pipe of the next letter is as it was
-lettered_next : (bs : List ℕ) (ps : List Pipe) (k : ℕ) → k < length bs → k < length ps → get_or (lettered (take k bs) ps) k nowhere ≡ get_or ps k nowhere
+lettered_next : (bs : List ℕ) (ps : List Pipe) (k : ℕ) → k < length bs → k < length ps → get_or (each_set_by (take k bs) ps) k nowhere ≡ get_or ps k nowhere
 lettered_next [] ps k h i = absurd (omega arith)
 lettered_next (b ∷ bs) [] k h i = absurd (omega arith)
 lettered_next (b ∷ bs) (p ∷ ps) zero h i = refl
 lettered_next (b ∷ bs) (p ∷ ps) (suc k) h i = lettered_next bs ps k (omega arith) (omega arith)
 
-lettered_more : (bs : List ℕ) (ps : List Pipe) (k : ℕ) → k < length bs → k < length ps → set (lettered (take k bs) ps) k (set_by (setting_of (get_or bs k 0)) (get_or ps k nowhere)) ≡ lettered (take (suc k) bs) ps
+lettered_more : (bs : List ℕ) (ps : List Pipe) (k : ℕ) → k < length bs → k < length ps → set (each_set_by (take k bs) ps) k (set_by (setting_of (get_or bs k 0)) (get_or ps k nowhere)) ≡ each_set_by (take (suc k) bs) ps
 lettered_more [] ps k h i = absurd (omega arith)
 lettered_more (b ∷ bs) [] k h i = absurd (omega arith)
 lettered_more (b ∷ bs) (p ∷ ps) zero h i = refl

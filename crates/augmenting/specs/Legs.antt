@@ -2,7 +2,7 @@
 use Rattle.std.specs.Prelude.{◌≡◌, ℕ, ◌<◌, ◌≢◌, List, Some, Option}
 use Rattle.network.specs.Network.{Network}
 use Rattle.network.specs.declared.valve.Valve as valve
-use Rattle.network.specs.Changes.{with_valve, closing}
+use Rattle.network.specs.Changes.{with_valve, with_pipe_closed}
 use Rattle.network.specs.Residual.{pipe}
 use Rattle.formats.specs.declared.setting.Setting.{Setting}
 use Rattle.formats.specs.declared.setting.Setting.TheVariants.{Closed}
@@ -16,5 +16,5 @@ pub record GivesBack {Λ : Type 0} (w : Network) (good : Λ → Λ → Type 0) (
 
 -- the setting closes pipe k, or leaves network and flow as they were
 pub record ClosesBy {Λ : Type 0} (good : Λ → Λ → Type 0) (start : Λ) (extended : Λ → ℕ → Λ) (w : Network) (f : List ℕ) (k : ℕ) (o : Option Setting) (u : Network) (n : ℕ) (g : List ℕ) : Type 0 where
-  pub closes : o ≡ Some Closed → (u ≡ closing w k) × Lowers good start extended w f k (with_valve (pipe w k) valve.TheVariants.Closed) 0 n g
+  pub closes : o ≡ Some Closed → (u ≡ with_pipe_closed w k) × Lowers good start extended w f k (with_valve (pipe w k) valve.TheVariants.Closed) 0 n g
   pub leaves : (o ≢ Some Closed) → (u ≡ w) × (n ≡ 0) × (g ≡ f)

@@ -53,14 +53,14 @@ module _ (most places : ℕ) (w : Network) (k : ℕ) where
     pub let_in : {A : Type 0} (r : Result A Refusal) → with_places most places (with_number w k r) ≡ r
     let_in r = by_number r ∙ ap (λ x. and_then x (λ _. r)) in_place
 
-    to_open : (v : Valve) → (pipe w k).valve ≡ v → opening most places w k ≡ cond (is_open v) (Err AlreadyOpen) (Ok (changes.opening w k))
-    to_open v e = let_in _ ∙ ap (λ (x : Valve). cond {A = Result Network Refusal} (is_open x) (Err AlreadyOpen) (Ok (changes.opening w k))) e
+    to_open : (v : Valve) → (pipe w k).valve ≡ v → opening most places w k ≡ cond (is_open v) (Err AlreadyOpen) (Ok (changes.with_pipe_open w k))
+    to_open v e = let_in _ ∙ ap (λ (x : Valve). cond {A = Result Network Refusal} (is_open x) (Err AlreadyOpen) (Ok (changes.with_pipe_open w k))) e
 
-    to_close : (v : Valve) → (pipe w k).valve ≡ v → closing most places w k ≡ cond (is_open v) (Ok (changes.closing w k)) (Err AlreadyClosed)
-    to_close v e = let_in _ ∙ ap (λ (x : Valve). cond {A = Result Network Refusal} (is_open x) (Ok (changes.closing w k)) (Err AlreadyClosed)) e
+    to_close : (v : Valve) → (pipe w k).valve ≡ v → closing most places w k ≡ cond (is_open v) (Ok (changes.with_pipe_closed w k)) (Err AlreadyClosed)
+    to_close v e = let_in _ ∙ ap (λ (x : Valve). cond {A = Result Network Refusal} (is_open x) (Ok (changes.with_pipe_closed w k)) (Err AlreadyClosed)) e
 
     pub limit_missed : (l : ℕ) → (1 ≤ l → l ≤ 60000 → ⊥) → limiting most places w k l ≡ Err (OutOfRange 0)
-    limit_missed l h = let_in _ ∙ ap (λ (x : Bool). cond {A = Result Network Refusal} x (Ok (changes.limiting w k l)) (Err (OutOfRange 0))) (out (cases_lt l 1) (cases_lt 60000 l))
+    limit_missed l h = let_in _ ∙ ap (λ (x : Bool). cond {A = Result Network Refusal} x (Ok (changes.with_pipe_limit w k l)) (Err (OutOfRange 0))) (out (cases_lt l 1) (cases_lt 60000 l))
       where
         out : (l < 1) ⊎ (1 ≤ l) → (60000 < l) ⊎ (l ≤ 60000) → (leb 1 l && leb l 60000) ≡ false
         out (inl a) b = grind (arith, nat_tests)
@@ -71,7 +71,7 @@ module _ (most places : ℕ) (w : Network) (k : ℕ) where
 module _ (places : ℕ) (t : Table) (k : ℕ) where
   pub opened : (r : Result pipe-record.Pipe Refusal) → Standing places t k Closed AlreadyOpen r
       → elim r as (λ _. Type 0) [
-        | Ok p ↦ (opening 64 places (network_of t) k ≡ Ok (changes.opening (network_of t) k)) × (64 ≤ places) × StandsFor t k p × (p.valve ≡ Closed)
+        | Ok p ↦ (opening 64 places (network_of t) k ≡ Ok (changes.with_pipe_open (network_of t) k)) × (64 ≤ places) × StandsFor t k p × (p.valve ≡ Closed)
         | Err e ↦ opening 64 places (network_of t) k ≡ Err e
       ]
   opened (Ok p) h = (to_open 64 places (network_of t) k h.0 Closed (sym (ap (λ (q : Pipe). q.valve) h.2.pipe_is) ∙ h.3), h.1, h.2, h.3)
@@ -84,7 +84,7 @@ module _ (places : ℕ) (t : Table) (k : ℕ) where
 
   pub closed : (r : Result pipe-record.Pipe Refusal) → Standing places t k Open AlreadyClosed r
       → elim r as (λ _. Type 0) [
-        | Ok p ↦ (closing 64 places (network_of t) k ≡ Ok (changes.closing (network_of t) k)) × (64 ≤ places) × StandsFor t k p × (p.valve ≡ Open)
+        | Ok p ↦ (closing 64 places (network_of t) k ≡ Ok (changes.with_pipe_closed (network_of t) k)) × (64 ≤ places) × StandsFor t k p × (p.valve ≡ Open)
         | Err e ↦ closing 64 places (network_of t) k ≡ Err e
       ]
   closed (Ok p) h = (to_close 64 places (network_of t) k h.0 Open (sym (ap (λ (q : Pipe). q.valve) h.2.pipe_is) ∙ h.3), h.1, h.2, h.3)

@@ -17,7 +17,7 @@ use Rattle.network.proofs.Totals.{total_eq}
 use Rattle.formats.specs.declared.setting.Setting.{Setting}
 use Rattle.formats.specs.declared.setting.Setting.TheVariants.{Closed}
 use Rattle.formats.specs.Letters.{setting_of}
-use Rattle.interface.specs.Verdicts.{set_by, lettered, patterned}
+use Rattle.interface.specs.Verdicts.{set_by, each_set_by, patterned}
 use Rattle.interface.specs.Works.{Closings, none_closed, one_closed, one_left}
 use Rattle.augmenting.proofs.Valves.{lettered_length}
 
@@ -26,14 +26,14 @@ no_letter : {A : Type 0} → setting_of 0 ≡ Some Closed → A
 no_letter e = absurd (let z : ◌≡◌ {A = ℕ} 0 1 = cc in omega arith)
 
 -- a pipe that a letter closes may as well be closed before
-lettered_closed : (bs : List ℕ) (ps : List Pipe) (k : ℕ) → setting_of (get_or bs k 0) ≡ Some Closed → lettered bs (set ps k (with_valve (get_or ps k nowhere) valve.TheVariants.Closed)) ≡ lettered bs ps
+lettered_closed : (bs : List ℕ) (ps : List Pipe) (k : ℕ) → setting_of (get_or bs k 0) ≡ Some Closed → each_set_by bs (set ps k (with_valve (get_or ps k nowhere) valve.TheVariants.Closed)) ≡ each_set_by bs ps
 lettered_closed [] ps k e = no_letter e
 lettered_closed (b ∷ bs) [] k e = refl
 lettered_closed (b ∷ bs) (p ∷ ps) zero e =
-    ap (λ (q : Pipe). q ∷ lettered bs ps) (subst (λ (o : Option Setting). set_by o (with_valve p valve.TheVariants.Closed) ≡ set_by o p) (sym e) refl)
+    ap (λ (q : Pipe). q ∷ each_set_by bs ps) (subst (λ (o : Option Setting). set_by o (with_valve p valve.TheVariants.Closed) ≡ set_by o p) (sym e) refl)
 lettered_closed (b ∷ bs) (p ∷ ps) (suc k) e = ap (λ (qs : List Pipe). set_by (setting_of b) p ∷ qs) (lettered_closed bs ps k e)
 
-set_end : (e : Pipe → ℕ) → ((o : Option Setting) (p : Pipe) → e (set_by o p) ≡ e p) → (bs : List ℕ) (ps : List Pipe) (i : ℕ) → e (get_or (lettered bs ps) i nowhere) ≡ e (get_or ps i nowhere)
+set_end : (e : Pipe → ℕ) → ((o : Option Setting) (p : Pipe) → e (set_by o p) ≡ e p) → (bs : List ℕ) (ps : List Pipe) (i : ℕ) → e (get_or (each_set_by bs ps) i nowhere) ≡ e (get_or ps i nowhere)
 set_end e same [] ps i = refl
 set_end e same (b ∷ bs) [] i = refl
 set_end e same (b ∷ bs) (p ∷ ps) zero = same (setting_of b) p

@@ -6,7 +6,7 @@ use Rattle.network.specs.declared.pipe.Pipe as pipe-record
 use Rattle.network.specs.declared.table.Table.{Table}
 use Rattle.network.specs.declared.valve.Valve.{Valve}
 use Rattle.network.specs.declared.valve.Valve.TheVariants.{Open, Closed}
-use Rattle.network.specs.Changes.{with_pipe, with_limit, with_valve, limiting}
+use Rattle.network.specs.Changes.{with_pipe, with_limit, with_valve, with_pipe_limit}
 use Rattle.network.specs.Flows.{Within, Flow, dry, Greatest, outflow, inflow}
 use Rattle.network.specs.Network.{Pipe, Network, Wired}
 use Rattle.network.specs.Pipes.{network_of, flow_of}
@@ -32,7 +32,7 @@ module _ {Λ : Type 0} {good : Λ → Λ → Type 0} {start : Λ} {extended : Λ
   works_loaded cold w f u n g h = h
 
   -- a limit that the pipe's flow keeps
-  pub works_limited : (w : Network) (f : List ℕ) (k l n : ℕ) (g : List ℕ) → carried f k ≤ l → Fills (limiting w k l) good start extended f n g → Works warm good start extended w f (limited k l) n g
+  pub works_limited : (w : Network) (f : List ℕ) (k l n : ℕ) (g : List ℕ) → carried f k ≤ l → Fills (with_pipe_limit w k l) good start extended f n g → Works warm good start extended w f (limited k l) n g
   works_limited w f k l n g more fills = (λ less. absurd (omega arith), λ _. fills)
 
 -- where a pipe carries x, it may have any limit from x on
@@ -55,7 +55,7 @@ module _ (t : Table) (k : ℕ) (p : pipe-record.Pipe) (s : StandsFor t k p) wher
   inside : k < size (network_of t)
   inside = omega (arith, s.inside, table_size t)
 
-  pub to_limit : (l : ℕ) → with_pipe (network_of t) k (with_valve (with_limit (pipe (network_of t) k) l) p.valve) ≡ limiting (network_of t) k l
+  pub to_limit : (l : ℕ) → with_pipe (network_of t) k (with_valve (with_limit (pipe (network_of t) k) l) p.valve) ≡ with_pipe_limit (network_of t) k l
   to_limit l = ap (λ (v : Valve). with_pipe (network_of t) k (with_valve (with_limit (pipe (network_of t) k) l) v)) (ap (λ (q : Pipe). q.valve) s.pipe_is)
 
   pub own_flow : set (flow_of t) k p.flow ≡ flow_of t

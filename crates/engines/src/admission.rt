@@ -81,7 +81,7 @@ impl Settled {
     // The pipe that is to be opened.
     pub fn admit_open(&self, pipe: usize, places: usize) -> Result<Pipe, Refusal>
         ensures { elim result [
-          | Ok p ↦ (opening 64 places (network_of self.now.table) pipe ≡ Ok (changes.opening (network_of self.now.table) pipe))
+          | Ok p ↦ (opening 64 places (network_of self.now.table) pipe ≡ Ok (changes.with_pipe_open (network_of self.now.table) pipe))
               × (64 ≤ places) × StandsFor self.now.table pipe p × (p.valve ≡ Closed)
           | Err e ↦ opening 64 places (network_of self.now.table) pipe ≡ Err e
         ] }
@@ -92,7 +92,7 @@ impl Settled {
     // The pipe that is to be closed.
     pub fn admit_close(&self, pipe: usize, places: usize) -> Result<Pipe, Refusal>
         ensures { elim result [
-          | Ok p ↦ (closing 64 places (network_of self.now.table) pipe ≡ Ok (changes.closing (network_of self.now.table) pipe))
+          | Ok p ↦ (closing 64 places (network_of self.now.table) pipe ≡ Ok (changes.with_pipe_closed (network_of self.now.table) pipe))
               × (64 ≤ places) × StandsFor self.now.table pipe p × (p.valve ≡ Open)
           | Err e ↦ closing 64 places (network_of self.now.table) pipe ≡ Err e
         ] }
@@ -103,7 +103,7 @@ impl Settled {
     // The pipe that is to have another limit.
     pub fn admit_limit(&self, pipe: usize, limit: u32, places: usize) -> Result<Pipe, Refusal>
         ensures { elim result [
-          | Ok p ↦ (limiting 64 places (network_of self.now.table) pipe limit ≡ Ok (changes.limiting (network_of self.now.table) pipe limit))
+          | Ok p ↦ (limiting 64 places (network_of self.now.table) pipe limit ≡ Ok (changes.with_pipe_limit (network_of self.now.table) pipe limit))
               × (64 ≤ places) × StandsFor self.now.table pipe p × (1 ≤ limit) × (limit ≤ 60000)
           | Err e ↦ limiting 64 places (network_of self.now.table) pipe limit ≡ Err e
         ] }

@@ -1,7 +1,7 @@
 ghost use Rattle.std.specs.Prelude.{◌≡◌, ◌≤◌, length};
 ghost use Rattle.network.specs.declared.valve.Valve.TheVariants.{Open, Closed};
 ghost use Rattle.interface.specs.Works.{opened, closed, limited, lettered, Manner};
-ghost use Rattle.engines.specs.Changing.{Carried};
+ghost use Rattle.engines.specs.Changing.{CarriedOut};
 ghost use Rattle.engines.specs.Records.{StandsFor};
 
 use crate::settled::Settled;
@@ -26,7 +26,7 @@ pub trait Keeping {
         requires places { 64 ≤ length work.old }
         requires stands { StandsFor settled.old.table pipe old }
         requires closed { old.valve ≡ Closed }
-        ensures { Carried manner M.good M.start M.extended settled.old.table settled.new.table (opened pipe) result.0 result.1 };
+        ensures { CarriedOut manner M.good M.start M.extended settled.old.table settled.new.table (opened pipe) result.0 result.1 };
 
     // The valve of an open pipe closes.
     fn close<M: PathMetric>(
@@ -38,7 +38,7 @@ pub trait Keeping {
         requires places { 64 ≤ length work.old }
         requires stands { StandsFor settled.old.table pipe old }
         requires open { old.valve ≡ Open }
-        ensures { Carried manner M.good M.start M.extended settled.old.table settled.new.table (closed pipe) result.0 result.1 };
+        ensures { CarriedOut manner M.good M.start M.extended settled.old.table settled.new.table (closed pipe) result.0 result.1 };
 
     // A pipe, open or closed, gets another limit.
     fn limit<M: PathMetric>(
@@ -52,7 +52,7 @@ pub trait Keeping {
         requires stands { StandsFor settled.old.table pipe old }
         requires some { 1 ≤ limit }
         requires few { limit ≤ 60000 }
-        ensures { Carried manner M.good M.start M.extended settled.old.table settled.new.table (limited pipe limit) result.0 result.1 };
+        ensures { CarriedOut manner M.good M.start M.extended settled.old.table settled.new.table (limited pipe limit) result.0 result.1 };
 
     // All valves are set by a letter for each pipe.
     fn pattern<M: PathMetric>(
@@ -62,5 +62,5 @@ pub trait Keeping {
     ) -> (i64, u32)
         requires places { 64 ≤ length work.old }
         requires long { length letters.now ≡ settled.old.table.count }
-        ensures { Carried manner M.good M.start M.extended settled.old.table settled.new.table (lettered letters.now) result.0 result.1 };
+        ensures { CarriedOut manner M.good M.start M.extended settled.old.table settled.new.table (lettered letters.now) result.0 result.1 };
 }

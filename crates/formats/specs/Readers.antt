@@ -14,6 +14,6 @@ pub record Advanced (before after : Reader) : Type 0 where
   pub same_text : after.text.now ≡ before.text.now
 
 -- a reader that has read n lines more
-pub record Went (n : ℕ) (before after : Reader) : Type 0 where
+pub record LinesRead (n : ℕ) (before after : Reader) : Type 0 where
   pub counted : after.lines ≡ before.lines + n
   pub same_text : after.text.now ≡ before.text.now

@@ -64,13 +64,13 @@ header_in most = next_in (codes "NETW") 24 (header most)
 abbrev pub blank : List ℕ → Bool
 blank bs = ((slice_index bs 19 == 32 && slice_index bs 20 == 32) && slice_index bs 21 == 32) && slice_index bs 22 == 32
 
-abbrev pub lettered : ℕ → Option Valve → Result Valve Refusal
-lettered i None = Err (WrongLetter i)
-lettered i (Some v) = Ok v
+abbrev pub valve_or_refusal : ℕ → Option Valve → Result Valve Refusal
+valve_or_refusal i None = Err (WrongLetter i)
+valve_or_refusal i (Some v) = Ok v
 
 -- then the valve's letter in column 24
 abbrev pub valve_at : ℕ → List ℕ → Result Valve Refusal
-valve_at i bs = cond (blank bs) (lettered i (valve_of (slice_index bs 23))) (Err (BadNumber i))
+valve_at i bs = cond (blank bs) (valve_or_refusal i (valve_of (slice_index bs 23))) (Err (BadNumber i))
 
 -- the fields of a pipe line: from, to, limit, valve
 abbrev pub pipe_in : ℕ → ℕ → List ℕ → Result Pipe Refusal

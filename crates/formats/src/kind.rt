@@ -1,7 +1,7 @@
 ghost use Rattle.std.specs.Prelude.{◌≡◌, ℕ, ◌+◌, ◌≤◌, List, [], map, length, Ok, Err, Result};
 ghost use Rattle.std.specs.List.{AllByRecursion};
 ghost use Rattle.formats.specs.declared.refusal.Refusal.{Refusal};
-ghost use Rattle.formats.specs.Readers.{rest, Advanced, Went};
+ghost use Rattle.formats.specs.Readers.{rest, Advanced, LinesRead};
 ghost use Rattle.formats.specs.Sheets.{next_in, lines_in};
 
 use crate::reader::{Line, Reader};
@@ -67,7 +67,7 @@ impl<'a> Reader<'a> {
         ensures { elim result [
           | Ok u ↦ (lines_in (next_in K.word (K.columns kind.now) (K.says kind.now)) (length places.old) (self.old.lines + 1) (rest self.old) [] ≡ Ok (map K.meaning places.new, rest self.new))
               × AllByRecursion (K.Sound kind.now) places.new
-              × Went (length places.old) self.old self.new
+              × LinesRead (length places.old) self.old self.new
           | Err e ↦ lines_in (next_in K.word (K.columns kind.now) (K.says kind.now)) (length places.old) (self.old.lines + 1) (rest self.old) [] ≡ Err e
         ] }
     {

@@ -17,7 +17,7 @@ pub enum Refusal {
     TrailingBytes(usize),
     // The network has no pipe of that number.
     NoSuchPipe,
-    // The workspace has fewer places than the engine's greatest number of junctions.
+    // The workspace has fewer places than the most junctions that the engine takes.
     FewPlaces,
     // The answer does not fit into the space that was handed over.
     LittleSpace,

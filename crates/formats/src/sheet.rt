@@ -3,7 +3,7 @@ ghost use Rattle.network.specs.Network.{Pipe};
 ghost use Rattle.network.specs.Rows.{Each, Dry};
 ghost use Rattle.network.specs.Pipes.{pipe_of, network_of};
 ghost use Rattle.formats.specs.Lines.{ended};
-ghost use Rattle.formats.specs.Readers.{rest, Advanced, Went};
+ghost use Rattle.formats.specs.Readers.{rest, Advanced, LinesRead};
 ghost use Rattle.formats.specs.Sheets.{due, number_at, header, valve_at, pipe_in, sheet_in, SoundHeader, DryRow};
 ghost use Rattle.formats.specs.declared.header.Header.{Header};
 
@@ -184,7 +184,7 @@ impl Reader<'_> {
           | Ok t ↦ (sheet_in most (self.old.lines + 1) (rest self.old) ≡ Ok (network_of t, rest self.new))
               × (t.junctions ≤ most)
               × Each Dry t.rows t.count
-              × Went (1 + t.count) self.old self.new
+              × LinesRead (1 + t.count) self.old self.new
           | Err e ↦ sheet_in most (self.old.lines + 1) (rest self.old) ≡ Err e
         ] }
     {

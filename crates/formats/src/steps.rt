@@ -1,6 +1,6 @@
 ghost use Rattle.std.specs.Prelude.{◌≡◌, ℕ, ◌+◌, ◌≤◌, map, length, take, drop, Ok, Err, codes};
 ghost use Rattle.std.specs.List.{AllByRecursion};
-ghost use Rattle.formats.specs.Readers.{rest, Went};
+ghost use Rattle.formats.specs.Readers.{rest, LinesRead};
 ghost use Rattle.formats.specs.Schedules.{Timed, SoundStep, step_in, schedule_in, timed};
 ghost use Rattle.formats.specs.Sheets.{number_at};
 
@@ -102,7 +102,7 @@ impl<'a> Reader<'a> {
           | Ok s ↦ (schedule_in pipes (self.old.lines + 1) (rest self.old) ≡ Ok (map timed (take s.count s.steps)))
               × AllByRecursion (SoundStep pipes) (map timed (take s.count s.steps))
               × (length (rest self.new) ≡ 0)
-              × Went (1 + s.count) self.old self.new
+              × LinesRead (1 + s.count) self.old self.new
           | Err e ↦ schedule_in pipes (self.old.lines + 1) (rest self.old) ≡ Err e
         ] }
     {

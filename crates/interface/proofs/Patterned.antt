@@ -4,15 +4,15 @@ use Rattle.std.specs.List.{AllByRecursion}
 use Rattle.network.specs.Network.{Pipe, Network, Joins, Limited, Sound}
 use Rattle.formats.specs.declared.setting.Setting.{Setting}
 use Rattle.formats.specs.Letters.{setting_of}
-use Rattle.interface.specs.Verdicts.{set_by, lettered, patterned}
+use Rattle.interface.specs.Verdicts.{set_by, each_set_by, patterned}
 
 -- what a pattern leaves of each pipe, it leaves of all
-all_lettered : (P : Pipe → Type 0) → ((s : Option Setting) (p : Pipe) → P p → P (set_by s p)) → (bs : List ℕ) (ps : List Pipe) → AllByRecursion P ps → AllByRecursion P (lettered bs ps)
+all_lettered : (P : Pipe → Type 0) → ((s : Option Setting) (p : Pipe) → P p → P (set_by s p)) → (bs : List ℕ) (ps : List Pipe) → AllByRecursion P ps → AllByRecursion P (each_set_by bs ps)
 all_lettered P h [] ps a = a
 all_lettered P h (b ∷ bs) [] a = a
 all_lettered P h (b ∷ bs) (p ∷ ps) a = (h (setting_of b) p a.0, all_lettered P h bs ps a.1)
 
-lettered_long : (bs : List ℕ) (ps : List Pipe) → length (lettered bs ps) ≡ length ps
+lettered_long : (bs : List ℕ) (ps : List Pipe) → length (each_set_by bs ps) ≡ length ps
 lettered_long [] ps = refl
 lettered_long (b ∷ bs) [] = refl
 lettered_long (b ∷ bs) (p ∷ ps) = let e = lettered_long bs ps in omega arith

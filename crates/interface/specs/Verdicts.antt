@@ -1,5 +1,5 @@
 -- What each call does: the first condition that it misses, or the network that the engine means after it, or the answer.
--- `most` is the engine's greatest number of junctions, `places` the number of workspace places that the call is given.
+-- `most` is the most junctions that the engine takes, `places` the number of workspace places that the call is given.
 use Rattle.std.specs.Prelude.{ℕ, ◌-◌, Bool, cond, ◌&&◌, List, [], ◌∷◌, length, ℤ, pos, ◌-ℤ◌, Some, None, Ok, Err, Option, Result, ◌==◌, nat_le, nat_lt}
 use Rattle.network.specs.declared.report.Report.{Report}
 use Rattle.network.specs.Changes as changes
@@ -31,13 +31,13 @@ set_by None p = p
 set_by (Some s) p = record { from = p.from; to = p.to; limit = p.limit; valve = set_to s p.valve }
 
 -- the pipes, each set by its letter
-abbrev pub lettered : List ℕ → List Pipe → List Pipe
-lettered [] ps = ps
-lettered (b ∷ bs) [] = []
-lettered (b ∷ bs) (p ∷ ps) = set_by (setting_of b) p ∷ lettered bs ps
+abbrev pub each_set_by : List ℕ → List Pipe → List Pipe
+each_set_by [] ps = ps
+each_set_by (b ∷ bs) [] = []
+each_set_by (b ∷ bs) (p ∷ ps) = set_by (setting_of b) p ∷ each_set_by bs ps
 
 abbrev pub patterned : Network → List ℕ → Network
-patterned w bs = record { junctions = w.junctions; pump = w.pump; outlet = w.outlet; pipes = lettered bs w.pipes }
+patterned w bs = record { junctions = w.junctions; pump = w.pump; outlet = w.outlet; pipes = each_set_by bs w.pipes }
 
 -- Pattern: a letter for each pipe; all valves change together. No line is concerned.
 abbrev pub patterning : ℕ → ℕ → Network → List ℕ → Result Network Refusal
@@ -46,14 +46,14 @@ patterning most places w bs =
 
 -- Open, close: the valve of pipe k, if it was not so before.
 abbrev pub opening : ℕ → ℕ → Network → ℕ → Result Network Refusal
-opening most places w k = with_places most places (with_number w k (cond (is_open (pipe w k).valve) (Err AlreadyOpen) (Ok (changes.opening w k))))
+opening most places w k = with_places most places (with_number w k (cond (is_open (pipe w k).valve) (Err AlreadyOpen) (Ok (changes.with_pipe_open w k))))
 
 abbrev pub closing : ℕ → ℕ → Network → ℕ → Result Network Refusal
-closing most places w k = with_places most places (with_number w k (cond (is_open (pipe w k).valve) (Ok (changes.closing w k)) (Err AlreadyClosed)))
+closing most places w k = with_places most places (with_number w k (cond (is_open (pipe w k).valve) (Ok (changes.with_pipe_closed w k)) (Err AlreadyClosed)))
 
 -- Limit: pipe k has the limit l from now on, open or closed.
 abbrev pub limiting : ℕ → ℕ → Network → ℕ → ℕ → Result Network Refusal
-limiting most places w k l = with_places most places (with_number w k (cond (nat_le 1 l && nat_le l 60000) (Ok (changes.limiting w k l)) (Err (OutOfRange 0))))
+limiting most places w k l = with_places most places (with_number w k (cond (nat_le 1 l && nat_le l 60000) (Ok (changes.with_pipe_limit w k l)) (Err (OutOfRange 0))))
 
 -- Report: the network's own.
 abbrev pub reporting : ℕ → ℕ → Network → Result Report Refusal

@@ -20,12 +20,12 @@ abbrev pub raised : Network → ℕ → Network
 raised w k = with_pipe w k (with_limit (pipe w k) ((pipe w k).limit + 1))
 
 -- another limit on pipe k
-abbrev pub limiting : Network → ℕ → ℕ → Network
-limiting w k l = with_pipe w k (with_limit (pipe w k) l)
+abbrev pub with_pipe_limit : Network → ℕ → ℕ → Network
+with_pipe_limit w k l = with_pipe w k (with_limit (pipe w k) l)
 
 -- the valve of pipe k opened; closed
-abbrev pub opening : Network → ℕ → Network
-opening w k = with_pipe w k (with_valve (pipe w k) Open)
+abbrev pub with_pipe_open : Network → ℕ → Network
+with_pipe_open w k = with_pipe w k (with_valve (pipe w k) Open)
 
-abbrev pub closing : Network → ℕ → Network
-closing w k = with_pipe w k (with_valve (pipe w k) Closed)
+abbrev pub with_pipe_closed : Network → ℕ → Network
+with_pipe_closed w k = with_pipe w k (with_valve (pipe w k) Closed)

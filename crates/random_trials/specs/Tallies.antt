@@ -1,5 +1,5 @@
 -- Counts of checks, and their sums.
-use Rattle.std.specs.Prelude.{ℕ, ◌+◌, ◌%◌, ◌^◌}
+use Rattle.std.specs.Prelude.{◌+◌, ◌%◌, ◌^◌}
 use Rattle.random_trials.specs.declared.tally.Tally.{Tally}
 
 -- two counts together: each number is the sum of theirs, which wraps at 64 bits

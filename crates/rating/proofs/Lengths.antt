@@ -7,7 +7,7 @@ use Rattle.network.specs.Residual.{size}
 use Rattle.formats.specs.Pages.{rate_line, governing_line, total_line}
 use Rattle.formats.specs.Schedules.{Timed}
 use Rattle.writing.proofs.PageLines.{rate_length, governing_length, total_length}
-use Rattle.interface.specs.Verdicts.{lettered}
+use Rattle.interface.specs.Verdicts.{each_set_by}
 use Rattle.rating.specs.Pages.{governing_row, step_lines, stepped, all_lines, litres, page_of, page_length_of}
 
 pub pipes_length : (w : Network) (n : ℕ) → length (governing_row w n) ≡ n
@@ -22,7 +22,7 @@ lines_length i w =
     let marks = governing_line i (governing_row w (size w)) in
     length-append rate marks ∙ omega (arith, rate_length i (report_of w) w.junctions, governing_length i (governing_row w (size w)), pipes_length w (size w))
 
-pub lettered_length : (bs : List ℕ) (ps : List Pipe) → length (lettered bs ps) ≡ length ps
+pub lettered_length : (bs : List ℕ) (ps : List Pipe) → length (each_set_by bs ps) ≡ length ps
 lettered_length [] ps = refl
 lettered_length (b ∷ bs) [] = refl
 lettered_length (b ∷ bs) (p ∷ ps) = ap suc (lettered_length bs ps)

@@ -66,11 +66,11 @@ module _ (most : ℕ) (held : most ≤ 64) (places : ℕ) (w : Network) (fits : 
 
   next_fits : (q : Request) → Fits most (next_network most places w q)
   next_fits (Load text) = loaded_fits text.now (loading most places text.now) refl
-  next_fits (Open k) = placed _ (numbered k _ (λ l. cond_both (is_open (pipe w k).valve) (Err AlreadyOpen) (Ok (changes.opening w k)) Good
+  next_fits (Open k) = placed _ (numbered k _ (λ l. cond_both (is_open (pipe w k).valve) (Err AlreadyOpen) (Ok (changes.with_pipe_open w k)) Good
       (λ _. fits) (λ _. (valve_sound w k _ l fits.0, fits.1))))
-  next_fits (Close k) = placed _ (numbered k _ (λ l. cond_both (is_open (pipe w k).valve) (Ok (changes.closing w k)) (Err AlreadyClosed) Good
+  next_fits (Close k) = placed _ (numbered k _ (λ l. cond_both (is_open (pipe w k).valve) (Ok (changes.with_pipe_closed w k)) (Err AlreadyClosed) Good
       (λ _. (valve_sound w k _ l fits.0, fits.1)) (λ _. fits)))
-  next_fits (Limit k n) = placed _ (numbered k _ (λ l. cond_both (leb 1 n && leb n 60000) (Ok (changes.limiting w k n)) (Err (OutOfRange 0)) Good
+  next_fits (Limit k n) = placed _ (numbered k _ (λ l. cond_both (leb 1 n && leb n 60000) (Ok (changes.with_pipe_limit w k n)) (Err (OutOfRange 0)) Good
       (λ e.
       let p = and_parts (leb 1 n) (leb n 60000) e in
       (with_sound w k (with_limit (pipe w k) n) l refl refl (record { some = leb-true 1 n p.0; few = leb-true n 60000 p.1 }) fits.0, fits.1))

@@ -1,5 +1,5 @@
 -- What a run of calls on one engine answers.
--- `most` is the engine's greatest number of junctions, `manner` how it works; `good`, `start` and `extended` are those of its path metric.
+-- `most` is the most junctions that the engine takes, `manner` how it works; `good`, `start` and `extended` are those of its path metric.
 -- An engine means a network w and keeps a flow f.
 use Rattle.std.specs.Prelude.{◌≡◌, ℕ, min, Bool, List, [], ◌∷◌, length, take, ℤ, Ok, Err, vec_items, Vec}
 use Rattle.std.specs.Borrow.{Bor}

@@ -8,7 +8,7 @@ use Rattle.formats.specs.declared.header.Header.{Header}
 use Rattle.texts.specs.Conditions.{Condition, first_missed, missed, field, number_or, line_conditions, number_conditions, ends_conditions, valve_conditions, header_conditions, pipe_conditions, pipes_conditions, sheet_conditions, step_conditions, steps_conditions, schedule_conditions}
 use Rattle.formats.specs.Letters.{valve_of, is_pattern}
 use Rattle.formats.specs.Lines.{ended, first_line, after_line}
-use Rattle.formats.specs.Sheets.{and_then, of_kind, due, ranged, number_at, header, header_in, blank, lettered, valve_at, pipe_in, next_pipe_in, pipes_in, sheet_in}
+use Rattle.formats.specs.Sheets.{and_then, of_kind, due, ranged, number_at, header, header_in, blank, valve_or_refusal, valve_at, pipe_in, next_pipe_in, pipes_in, sheet_in}
 use Rattle.formats.specs.Schedules.{Timed, step_in, next_step_in, steps_in, schedule_in}
 use Rattle.texts.proofs.LineTexts.{tests, and_split, ranged_read}
 use Rattle.texts.proofs.SheetTexts.{ends_read}
@@ -72,7 +72,7 @@ valve_missed : (i : ℕ) (l : List ℕ) → missed (valve_at i l) ≡ first_miss
 unfolding first_missed
 valve_missed i l = go (blank l) (valve_of (get_or l 23 0))
   where
-    go : (t : Bool) (o : Option Valve) → missed (cond t (lettered i o) (Err (BadNumber i))) ≡ cond t (cond (is_some o) None (Some (WrongLetter i))) (Some (BadNumber i))
+    go : (t : Bool) (o : Option Valve) → missed (cond t (valve_or_refusal i o) (Err (BadNumber i))) ≡ cond t (cond (is_some o) None (Some (WrongLetter i))) (Some (BadNumber i))
     go true (Some v) = refl
     go true None = refl
     go false o = refl

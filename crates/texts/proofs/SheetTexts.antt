@@ -13,7 +13,7 @@ use Rattle.formats.specs.declared.header.Header.{Header}
 use Rattle.formats.specs.Fields.{written}
 use Rattle.formats.specs.Letters.{valve_of}
 use Rattle.formats.specs.Lines.{after_line}
-use Rattle.formats.specs.Sheets.{and_then, of_kind, due, number_at, header, SoundHeader, header_in, lettered, valve_at, pipe_in, next_pipe_in, pipes_in, sheet_in}
+use Rattle.formats.specs.Sheets.{and_then, of_kind, due, number_at, header, SoundHeader, header_in, valve_or_refusal, valve_at, pipe_in, next_pipe_in, pipes_in, sheet_in}
 use Rattle.formats.specs.Written.{valve_letter, header_columns, pipe_columns, pipe_line, sheet_of}
 use Rattle.formats.proofs.Lengths.{length_written}
 use Rattle.formats.proofs.Numbers.{and_ok}
@@ -73,7 +73,7 @@ module _ (w : Network) where
 
 -- the last five columns of a pipe line: blanks and the letter
 abbrev tail_in : ℕ → List ℕ → Result Valve Refusal
-tail_in i t = cond (((eqb (get_or t 0 0) 32 && eqb (get_or t 1 0) 32) && eqb (get_or t 2 0) 32) && eqb (get_or t 3 0) 32) (lettered i (valve_of (get_or t 4 0))) (Err (BadNumber i))
+tail_in i t = cond (((eqb (get_or t 0 0) 32 && eqb (get_or t 1 0) 32) && eqb (get_or t 2 0) 32) && eqb (get_or t 3 0) 32) (valve_or_refusal i (valve_of (get_or t 4 0))) (Err (BadNumber i))
 
 valve_tail : (i : ℕ) (l : List ℕ) → valve_at i l ≡ tail_in i (drop 19 l)
 valve_tail i l =
@@ -82,7 +82,7 @@ valve_tail i l =
     let e₂ = get_or-drop 19 l 2 0 in
     let e₃ = get_or-drop 19 l 3 0 in
     let e₄ = get_or-drop 19 l 4 0 in
-    sym (λ k. cond {A = Result Valve Refusal} (((eqb (e₀ k) 32 && eqb (e₁ k) 32) && eqb (e₂ k) 32) && eqb (e₃ k) 32) (lettered i (valve_of (e₄ k))) (Err (BadNumber i)))
+    sym (λ k. cond {A = Result Valve Refusal} (((eqb (e₀ k) 32 && eqb (e₁ k) 32) && eqb (e₂ k) 32) && eqb (e₃ k) 32) (valve_or_refusal i (valve_of (e₄ k))) (Err (BadNumber i)))
 
 abbrev tail_of : Valve → List ℕ
 tail_of v = codes "    " ++ valve_letter v ∷ []
@@ -198,13 +198,13 @@ header_read most i l h long kind e =
     subst (λ (x : Header). (l ≡ fields_written x) × SoundHeader most x) r.1 (is, sound)
 
 -- a letter that was read
-letter_read : (i b : ℕ) (v : Valve) → lettered i (valve_of b) ≡ Ok v → b ≡ valve_letter v
+letter_read : (i b : ℕ) (v : Valve) → valve_or_refusal i (valve_of b) ≡ Ok v → b ≡ valve_letter v
 letter_read i b v e =
     elim (eqb_tells b 79) [
-      | inl p ↦ subst (λ (x : Valve). b ≡ valve_letter x) (let q : Open ≡ v = let f = ap (λ (t : Bool). lettered i (cond t (Some Open) (cond (eqb b 67) (Some Closed) None))) p.0 in cc in q) p.1
+      | inl p ↦ subst (λ (x : Valve). b ≡ valve_letter x) (let q : Open ≡ v = let f = ap (λ (t : Bool). valve_or_refusal i (cond t (Some Open) (cond (eqb b 67) (Some Closed) None))) p.0 in cc in q) p.1
       | inr p ↦ elim (eqb_tells b 67) [
-        | inl z ↦ subst (λ (x : Valve). b ≡ valve_letter x) (let q : Closed ≡ v = let f = ap (λ (t : Bool). lettered i (cond t (Some Open) (cond (eqb b 67) (Some Closed) None))) p.0 in let g = ap (λ (t : Bool). lettered i (cond t (Some Closed) None)) z.0 in cc in q) z.1
-        | inr z ↦ absurd (let f = ap (λ (t : Bool). lettered i (cond t (Some Open) (cond (eqb b 67) (Some Closed) None))) p.0 in let g = ap (λ (t : Bool). lettered i (cond t (Some Closed) None)) z.0 in cc)
+        | inl z ↦ subst (λ (x : Valve). b ≡ valve_letter x) (let q : Closed ≡ v = let f = ap (λ (t : Bool). valve_or_refusal i (cond t (Some Open) (cond (eqb b 67) (Some Closed) None))) p.0 in let g = ap (λ (t : Bool). valve_or_refusal i (cond t (Some Closed) None)) z.0 in cc in q) z.1
+        | inr z ↦ absurd (let f = ap (λ (t : Bool). valve_or_refusal i (cond t (Some Open) (cond (eqb b 67) (Some Closed) None))) p.0 in let g = ap (λ (t : Bool). valve_or_refusal i (cond t (Some Closed) None)) z.0 in cc)
       ]
     ]
 
@@ -220,7 +220,7 @@ tail_read i (a ∷ b ∷ c ∷ []) v h e = absurd (omega arith)
 tail_read i (a ∷ b ∷ c ∷ d ∷ []) v h e = absurd (omega arith)
 tail_read i (a ∷ b ∷ c ∷ d ∷ x ∷ y ∷ t) v h e = absurd (omega arith)
 tail_read i (a ∷ b ∷ c ∷ d ∷ x ∷ []) v h e =
-    let f = filled (((eqb a 32 && eqb b 32) && eqb c 32) && eqb d 32) i (lettered i (valve_of x)) v e in
+    let f = filled (((eqb a 32 && eqb b 32) && eqb c 32) && eqb d 32) i (valve_or_refusal i (valve_of x)) v e in
     let g : (((eqb a 32 && eqb b 32) && eqb c 32) && eqb d 32) ≡ true = f.0 in
     let p : a ≡ 32 = grind (arith, nat_tests) in
     let q : b ≡ 32 = grind (arith, nat_tests) in

@@ -24,7 +24,7 @@ pub const TOTAL_BYTES: usize = KIND_COLUMNS + TOTAL_COLUMNS + 1;
 
 pub const FAIL_BYTES: usize = KIND_COLUMNS + 2 * FIELD_COLUMNS + 1;
 
-// N for the near side, B for the far side without the near, D for the rest, and where there is no such junction.
+// N for the near side, B for the far side without the near, D for the rest, and beyond the 64 junctions of a side.
 // The letter hangs on a junction as well as on the report, so it is no `From`.
 fn letter_of_side(report: &Report, k: usize) -> u8
     ensures { result ≡ side_letter report.now k }

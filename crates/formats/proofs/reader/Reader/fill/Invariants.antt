@@ -1,6 +1,6 @@
 use Rattle.std.proofs.Common.{◌≡◌, ◌+◌, ◌-◌, [], length, map, take}
 use Rattle.std.specs.List.{AllByRecursion}
-use Rattle.formats.specs.Readers.{rest, Went}
+use Rattle.formats.specs.Readers.{rest, LinesRead}
 use Rattle.formats.specs.Sheets.{next_in, lines_in}
 use Rattle.formats.proofs.reader.Reader.fill.Given as goal
 
@@ -11,5 +11,5 @@ invariant-loop-place g l =
     record {
       said : lines_in next (length l.place-items - l.place-index) (l.self.lines + 1) (rest l.self) (map K.meaning (take l.place-index l.place-items)) ≡ lines_in next (length l.place-items) (l.initial.self.lines + 1) (rest l.initial.self) [];
       sound : AllByRecursion (K.Sound l.kind) (take l.place-index l.place-items);
-      went : Went l.place-index l.initial.self l.self;
+      went : LinesRead l.place-index l.initial.self l.self;
     }
