@@ -33,6 +33,10 @@ impl<M: PathMetric, K: Keeping> Engine for FlowKeeper<M, K> {
 
     ghost sound = { λ e. (table_sound e.settled.table, e.settled.table.most) };
 
+    fn place() -> Label<M> {
+        Label::unreached()
+    }
+
     fn new() -> Self {
         FlowKeeper {
             settled: Settled::bare(),

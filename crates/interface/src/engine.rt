@@ -23,6 +23,10 @@ pub trait Engine {
     // An element of the workspace.
     type Place;
 
+    // Such an element, whatever it holds. Without one there could be no workspace, and an engine could refuse every call
+    // for want of it.
+    fn place() -> Self::Place;
+
     ghost meaning: { Self → Network };
 
     // so many augmentations led from the first state by the change to the second
