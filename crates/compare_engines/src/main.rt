@@ -13,6 +13,8 @@ mod scripts;
 mod show;
 mod source;
 mod stop;
+#[cfg(test)]
+mod tests;
 
 use anyhow::anyhow;
 use compare::compare;
