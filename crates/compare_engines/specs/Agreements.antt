@@ -1,5 +1,5 @@
 -- What four engines answered to the same calls.
-use Rattle.std.specs.Prelude.{◌≡◌, ℕ, min, List, length, vec_items, vec_len}
+use Rattle.std.specs.Prelude.{◌≡◌, ℕ, suc, ◌<◌, min, List, length, vec_items, vec_len}
 use Rattle.paths.specs.Fews.{few, Fewer, lengthened}
 use Rattle.paths.specs.Widths.{unbounded, Wider, narrowed}
 use Rattle.interface.specs.Works.{Manner, warm, cold}
@@ -31,6 +31,13 @@ TellsEach f i t =
 -- how many calls all four answered
 abbrev pub answered : Four → ℕ
 answered f = min (min (vec_len f.warm_fewest) (vec_len f.warm_widest)) (min (vec_len f.cold_fewest) (vec_len f.cold_widest))
+
+-- the number, counted from 1, of the first call in which they differ
+pub record FirstDifference (f : Four) (n : ℕ) : Type 0 where
+  pub call : ℕ
+  pub number : n ≡ suc call
+  pub differs : ¬ AgreeAt (vec_items f.warm_fewest) (vec_items f.warm_widest) (vec_items f.cold_fewest) (vec_items f.cold_widest) call
+  pub agree : (i : ℕ) → i < call → AgreeAt (vec_items f.warm_fewest) (vec_items f.warm_widest) (vec_items f.cold_fewest) (vec_items f.cold_widest) i
 
 -- they agree in each of these
 abbrev pub EachAgrees : Four → Type 0

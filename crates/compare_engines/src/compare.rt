@@ -1,6 +1,6 @@
 ghost use Rattle.std.specs.Prelude.{◌≡◌, ◌≤◌, length, vec_capacity, MatchOption, None, IfOk, Decides};
 ghost use Rattle.runs.specs.Agreements.{SameCalls};
-ghost use Rattle.compare_engines.specs.Agreements.{AllAgree, EachAgrees, FourAnswer, TellsEach, answered};
+ghost use Rattle.compare_engines.specs.Agreements.{AllAgree, EachAgrees, FirstDifference, FourAnswer, TellsEach, answered};
 ghost use Rattle.compare_engines.specs.Scripts.{calls_of};
 
 use crate::agree::agree;
@@ -88,7 +88,7 @@ impl Four {
 
     // The number, counted from 1, of the first call to which two of them gave answers that differ.
     fn difference(&self) -> Option<usize>
-        ensures only { result ≡ None → EachAgrees self.now }
+        ensures first { MatchOption result (EachAgrees self.now) (FirstDifference self.now) }
         ensures all { EachAgrees self.now → result ≡ None }
     {
         // By the call's number, since four lists are asked at once, and zips of four would be taken apart as pairs of pairs.

@@ -1,12 +1,10 @@
 #![tactic(auto)]
 
+mod rated;
+
 use anyhow::anyhow;
-use engines::warm::WarmEngine;
-use interface::engine::Engine;
-use network::table::MOST_JUNCTIONS;
-use paths::fewest::Fewest;
-use paths::label::Label;
-use rating::page::{MOST_PAGE, rate};
+use rated::rate_text;
+use rating::page::MOST_PAGE;
 use std::io;
 use std::io::{Read, Write};
 use writing::page::fail_line;
@@ -24,10 +22,8 @@ fn read_text(rt: &HostRuntime) -> io::Result<Vec<u8>> {
 fn main(rt: HostRuntime) -> anyhow::Result<()> {
     let text = read_text(&rt)?;
     let mut page = vec![in rt.alloc(); 0u8; MOST_PAGE]?;
-    let mut engine: WarmEngine<Fewest> = WarmEngine::new();
-    let mut work = [Label::unreached(); MOST_JUNCTIONS];
     let mut output = rt.stdout();
-    match rate(&mut engine, &text, &mut work, &mut page) {
+    match rate_text(&text, &mut page) {
         Ok(length) => {
             page.truncate(length);
             output.write_all(&page)?;
