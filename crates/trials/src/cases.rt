@@ -1,4 +1,5 @@
-ghost use Rattle.std.specs.Prelude.{◌≡◌, ◌+◌, ◌-◌, ◌==◌, if◌then◌else◌, length};
+ghost use Rattle.std.specs.Prelude.{◌≡◌, ◌-◌, ◌==◌, if◌then◌else◌, length, take, drop};
+ghost use Rattle.trials.specs.Cuts.{cut_of};
 ghost use Rattle.std.specs.Iterator.{at_most};
 ghost use Rattle.trials.specs.declared.cases.Mark.TheVariants.{Whole, Cut, FewPlaces, LittleSpace, JustSpace, Plain};
 
@@ -88,7 +89,8 @@ impl<'a> Cases<'a> {
 
 // A text split behind the byte at a place, or at its end where there is no such byte.
 fn split_behind<'a>(text: &'a [u8], place: Option<usize>) -> (&'a [u8], &'a [u8])
-    ensures { length result.0.now + length result.1.now ≡ length text.now }
+    ensures before { result.0.now ≡ take (cut_of text.now place) text.now }
+    ensures behind { result.1.now ≡ drop (cut_of text.now place) text.now }
 {
     match place {
         Some(place) if place < text.len() => text.split_at(place + 1),

@@ -1,7 +1,9 @@
 #![tactic(auto)]
 
-ghost use Rattle.std.specs.Prelude.{◌≡◌, ◌==◌};
+ghost use Rattle.std.specs.Prelude.{◌≡◌, ◌==◌, length, min, true, false, Decides, Ok};
 ghost use Rattle.std.specs.List.{list_all};
+ghost use Rattle.formats.specs.Sheets.{sheet_in, and_then};
+ghost use Rattle.trials.specs.Rated.{Rated};
 
 mod cases;
 
@@ -44,7 +46,9 @@ fn rate_by<E: Engine + Drop>(
     task: &Task,
     work: &mut [E::Place],
     space: &mut [u8],
-) -> Result<usize, Refusal> {
+) -> Result<usize, Refusal>
+    ensures { Rated E.Engine.MOST_JUNCTIONS (min task.now.places (length work.old)) task.now.text.now (min task.now.room (length space.old)) (length space.old) result space.new }
+{
     let mut engine = E::new();
     space.fill(UNWRITTEN);
     let places = task.places.min(work.len());
@@ -57,14 +61,16 @@ fn rate_by<E: Engine + Drop>(
     )
 }
 
-// Whether another kind of engine answers and writes the same.
+// Whether another kind of engine answers and writes the same: whether the first rated the text as it is to be rated.
 fn agrees<E: Engine + Drop>(
     task: &Task,
     work: &mut [E::Place],
     answer: &Result<usize, Refusal>,
     first: &[u8],
     space: &mut [u8],
-) -> bool {
+) -> bool
+    ensures { Decides result (Rated E.Engine.MOST_JUNCTIONS (min task.now.places (length work.old)) task.now.text.now (min task.now.room (length space.old)) (length space.old) answer.now first.now) }
+{
     rate_by::<E>(task, work, space) == *answer && *first == *space
 }
 
@@ -74,12 +80,26 @@ fn others_agree(
     answer: &Result<usize, Refusal>,
     first: &[u8],
     space: &mut [u8],
-) -> bool {
+) -> bool
+    ensures { Decides result (Rated 64 (min task.now.places 64) task.now.text.now (min task.now.room (length space.old)) (length space.old) answer.now first.now) }
+{
     let mut few = [Label::<Fewest>::unreached(); MOST_JUNCTIONS];
     let mut wide = [Label::<Widest>::unreached(); MOST_JUNCTIONS];
     agrees::<WarmEngine<Widest>>(task, &mut wide, answer, first, space)
         && agrees::<ColdEngine<Fewest>>(task, &mut few, answer, first, space)
         && agrees::<ColdEngine<Widest>>(task, &mut wide, answer, first, space)
+}
+
+// Rates a text by the four engines. The answer is the first one's, as is what the first space holds, and whether the others
+// answer and write the same: on two spaces of one length they do, whatever the text is.
+fn rate_by_all(task: &Task, first: &mut [u8], second: &mut [u8]) -> (Result<usize, Refusal>, bool)
+    ensures rated { Rated 64 (min task.now.places 64) task.now.text.now (min task.now.room (length first.old)) (length first.old) result.0 first.new }
+    ensures agree { length second.old ≡ length first.old → result.1 ≡ true }
+{
+    let mut work = [Label::<Fewest>::unreached(); MOST_JUNCTIONS];
+    let answer = rate_by::<WarmEngine<Fewest>>(task, &mut work, first);
+    let agree = others_agree(task, &answer, first, second);
+    (answer, agree)
 }
 
 // Whether nothing was written there.
@@ -89,8 +109,10 @@ fn is_unwritten(space: &[u8]) -> bool
     space.iter().all(|byte| *byte == UNWRITTEN)
 }
 
-// Whether the sheet of a text comes out otherwise when it is written again.
-fn sheet_differs(text: &[u8]) -> Result<bool, Refusal> {
+// Whether the sheet of a text comes out otherwise when it is written again: none does, whatever the text is.
+fn sheet_differs(text: &[u8]) -> Result<bool, Refusal>
+    ensures { result ≡ and_then (sheet_in 64 1 text.now) (λ _. Ok false) }
+{
     let (table, taken) = read_sheet(text, MOST_JUNCTIONS)?;
     let mut space = [0u8; MOST_SHEET];
     match try_put_sheet(&mut space, &table) {
@@ -139,9 +161,8 @@ fn try_case(rt: &HostRuntime, case: &Case, first: &mut [u8], second: &mut [u8]) 
         places: case.mark.places(),
         room: case.mark.room(first.len(), length),
     };
-    let mut work = [Label::<Fewest>::unreached(); MOST_JUNCTIONS];
-    let answer = rate_by::<WarmEngine<Fewest>>(&task, &mut work, first);
-    if !others_agree(&task, &answer, first, second) {
+    let (answer, agree) = rate_by_all(&task, first, second);
+    if !agree {
         output.write_all(b"THE ENGINES DIFFER\n")?;
     }
     // an accepted text begins with a sheet
