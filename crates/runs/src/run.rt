@@ -23,8 +23,8 @@ fn changed(done: (i64, u32)) -> Answer
 // The clauses below name the engine's members one by one, since `Works` of the interface takes them so, and a record of them
 // would be spelled with all of them in each clause.
 
-// One request, given the whole workspace. It is data, matched here alone: a closure in its place could not be copied,
-// nor could a contract say what was asked.
+// One request, given the whole workspace. It is data, matched here alone: a closure in its place could not be copied for
+// another engine, nor could a contract say what was asked.
 fn ask<E: FlowEngine>(engine: &mut E, request: Request, work: &mut [E::Place]) -> Answer
     ensures { Answers E.Engine.MOST_JUNCTIONS E.FlowEngine.manner E.Metric.PathMetric.good E.Metric.PathMetric.start E.Metric.PathMetric.extended (length work.old)
         (E.Engine.meaning engine.old) (E.FlowEngine.kept engine.old) request.entry result (E.Engine.meaning engine.new) (E.FlowEngine.kept engine.new) }

@@ -1,4 +1,4 @@
--- What rating a text by a new engine gives, on a space that held nothing.
+-- What rating a text by a new engine gives, on a space in which nothing was written.
 use Rattle.std.specs.Prelude.{◌≡◌, ℕ, List, length, replicate, Ok, Err, Result}
 use Rattle.network.specs.Network.{Network}
 use Rattle.formats.specs.declared.refusal.Refusal.{Refusal}

@@ -41,7 +41,7 @@ fn length_of_page(text: &[u8], space: &mut [u8]) -> usize {
     rate(&mut engine, text, &mut work, space).unwrap_or(0)
 }
 
-// Rates a text by a new engine, on a space that held nothing.
+// Rates a text by a new engine, on a space in which nothing was written.
 fn rate_by<E: Engine + Drop>(
     task: &Task,
     work: &mut [E::Place],
