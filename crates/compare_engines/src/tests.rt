@@ -8,7 +8,7 @@ use paths::fewest::Fewest;
 use paths::label::Label;
 use runs::answer::Answer;
 use runs::call::{Call, Request};
-use runs::run::run_two;
+use runs::run::{run, run_two};
 use std::test::Fail;
 
 fn refusal_of(rt: &HostRuntime, text: &[u8]) -> Result<Refusal, Fail> {
@@ -89,5 +89,31 @@ fn two_lists_of_calls(rt: HostRuntime) -> Result<(), Fail> {
     };
     assert_eq!(rt; *length, 25);
     assert_eq!(rt; space.len(), 26);
+    Ok(())
+}
+
+// A network of one pipe, whose flow is asked into a row of none.
+#[test]
+fn row_too_short(rt: HostRuntime) -> Result<(), Fail> {
+    let load = Call {
+        request: Request::Load(b"NETW    2    1    0    1\nPIPE    0    1    5    O\n"),
+        places: MOST_JUNCTIONS,
+    };
+    let reading = Call {
+        request: Request::ReadFlow(Vec::new(rt.alloc())),
+        places: 0,
+    };
+    let mut calls = Vec::new(rt.alloc());
+    calls.push(load).expect(&rt, "memory");
+    calls.push(reading).expect(&rt, "memory");
+    let mut answers = Vec::with_capacity(rt.alloc(), 2).expect(&rt, "memory");
+    let mut work = [Label::<Fewest>::unreached(); MOST_JUNCTIONS];
+    let done = run::<WarmEngine<Fewest>>(calls, &mut work, &mut answers);
+    assert!(rt; done.is_ok());
+    let Some(Answer::FlowRefused { refusal, row }) = answers.get(1) else {
+        return Err(Fail::new("the row was taken"));
+    };
+    assert_eq!(rt; refusal.number(), 9);
+    assert_eq!(rt; row.len(), 0);
     Ok(())
 }
