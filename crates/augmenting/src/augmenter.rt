@@ -8,8 +8,8 @@ use paths::label::Label;
 // belongs to, and a type with that bound would be asked in the same places to belong to this table.
 // So does what they leave as it was: that is said of two tables, before and after, and no field holds it.
 #[derive(Drop)]
-pub struct Augmenter<'a, M> {
-    pub table: Table,
-    pub labels: &'a mut [Label<M>],
-    ghost places: { table.junctions ≤ length labels.now },
+pub struct Augmenter<'t, 'w, M> {
+    pub table: &'t mut Table,
+    pub labels: &'w mut [Label<M>],
+    ghost places: { table.now.junctions ≤ length labels.now },
 }

@@ -11,20 +11,22 @@ use network::table::MOST_LIMIT;
 use paths::metric::PathMetric;
 use paths::search::best_path;
 
-impl<'a, M: PathMetric> Augmenter<'a, M> {
+impl<'t, 'w, M: PathMetric> Augmenter<'t, 'w, M> {
     // Adds along a best path from `source` to `goal` the smallest weight on it, or `most` if that is less.
     // The answer is the amount, or None where there is no path.
     pub fn augment(&mut self, source: usize, goal: usize, most: u32) -> Option<u32>
-        requires source { source < self.old.table.junctions }
-        requires goal { goal < self.old.table.junctions }
+        requires source { source < self.old.table.now.junctions }
+        requires goal { goal < self.old.table.now.junctions }
         requires some { 0 < most }
-        ensures same { network_of self.new.table ≡ network_of self.old.table }
+        ensures same { network_of self.new.table.now ≡ network_of self.old.table.now }
         ensures answer { elim result [
-          | None ↦ (flow_of self.new.table ≡ flow_of self.old.table) × ((ss : List Step) → Path (network_of self.old.table) (flow_of self.old.table) source ss goal → ⊥)
-          | Some c ↦ Augments (network_of self.old.table) M.good M.start M.extended source goal most (flow_of self.old.table) c (flow_of self.new.table)
+          | None ↦ (flow_of self.new.table.now ≡ flow_of self.old.table.now) × ((ss : List Step) → Path (network_of self.old.table.now) (flow_of self.old.table.now) source ss goal → ⊥)
+          | Some c ↦ Augments (network_of self.old.table.now) M.good M.start M.extended source goal most (flow_of self.old.table.now) c (flow_of self.new.table.now)
         ] }
+        ensures same_table { self.new.table.ghost_name ≡ self.old.table.ghost_name }
+        ensures same_labels { self.new.labels.ghost_name ≡ self.old.labels.ghost_name }
     {
-        let table = &mut self.table;
+        let table = &mut *self.table;
         let labels = &mut *self.labels;
         best_path(table, source, goal, labels)?;
         let amount = least_weight(table, labels, goal, most);
@@ -35,13 +37,15 @@ impl<'a, M: PathMetric> Augmenter<'a, M> {
     // Augments from pump to outlet until there is no path, and answers how often.
     // No weight exceeds the greatest limit, so that is no bound on an amount.
     pub fn fill(&mut self) -> u32
-        requires flow { Flow (network_of self.old.table) (flow_of self.old.table) }
-        requires forth { inflow (network_of self.old.table) (flow_of self.old.table) self.old.table.pump ≤ outflow (network_of self.old.table) (flow_of self.old.table) self.old.table.pump }
-        ensures same { network_of self.new.table ≡ network_of self.old.table }
-        ensures flow { Flow (network_of self.old.table) (flow_of self.new.table) }
-        ensures done { (ss : List Step) → Path (network_of self.old.table) (flow_of self.new.table) self.old.table.pump ss self.old.table.outlet → ⊥ }
-        ensures count { Fills (network_of self.old.table) M.good M.start M.extended (flow_of self.old.table) result (flow_of self.new.table) }
+        requires flow { Flow (network_of self.old.table.now) (flow_of self.old.table.now) }
+        requires forth { inflow (network_of self.old.table.now) (flow_of self.old.table.now) self.old.table.now.pump ≤ outflow (network_of self.old.table.now) (flow_of self.old.table.now) self.old.table.now.pump }
+        ensures same { network_of self.new.table.now ≡ network_of self.old.table.now }
+        ensures flow { Flow (network_of self.old.table.now) (flow_of self.new.table.now) }
+        ensures done { (ss : List Step) → Path (network_of self.old.table.now) (flow_of self.new.table.now) self.old.table.now.pump ss self.old.table.now.outlet → ⊥ }
+        ensures count { Fills (network_of self.old.table.now) M.good M.start M.extended (flow_of self.old.table.now) result (flow_of self.new.table.now) }
         ensures few { result ≤ 30720000 }
+        ensures same_table { self.new.table.ghost_name ≡ self.old.table.ghost_name }
+        ensures same_labels { self.new.labels.ghost_name ≡ self.old.labels.ghost_name }
     {
         let pump = self.table.pump;
         let outlet = self.table.outlet;

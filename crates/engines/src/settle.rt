@@ -53,6 +53,21 @@ pub fn with_row(table: &Table, k: usize, limit: u32, valve: Valve) -> Table
     changed
 }
 
+// A table whose flow is greatest, to be changed and mended with these labels.
+pub fn to_mend<'t, 'w, M>(table: &'t mut Table, work: &'w mut [Label<M>]) -> GreatestFlow<'t, 'w, M>
+    requires places { table.old.junctions ≤ length work.old }
+    requires greatest { Greatest (network_of table.old) (flow_of table.old) }
+    ensures table { result.table.now ≡ table.old }
+    ensures labels { result.labels.now ≡ work.old }
+    ensures same_table { result.table.ghost_name ≡ table.entry.ghost_name }
+    ensures same_labels { result.labels.ghost_name ≡ work.entry.ghost_name }
+{
+    GreatestFlow {
+        table,
+        labels: work,
+    }
+}
+
 impl Settled {
     // Two junctions and no pipe.
     pub fn bare() -> Settled
@@ -76,33 +91,25 @@ impl Settled {
     }
 
     // A table whose flow is greatest, with the report of its network. It asks for that flow, so it is no `From`.
-    pub fn from_table(table: Table) -> Settled
-        requires { Greatest (network_of table) (flow_of table) }
-        ensures { result.table ≡ table }
+    // The table is copied once, when its report is known: given by value it was copied for the report too.
+    #[inline(always)]
+    pub fn from_table(table: &Table) -> Settled
+        requires { Greatest (network_of table.now) (flow_of table.now) }
+        ensures { result.table ≡ table.now }
     {
-        let report = survey::report(&table);
-        Settled { table, report }
-    }
-
-    // The network with its greatest flow, to be changed and mended with these labels.
-    pub fn mending<'a, M>(&self, work: &'a mut [Label<M>]) -> GreatestFlow<'a, M>
-        requires places { self.now.table.junctions ≤ length work.old }
-        ensures table { result.augmenter.table ≡ self.now.table }
-        ensures labels { result.augmenter.labels.now ≡ work.old }
-    {
-        GreatestFlow {
-            augmenter: Augmenter {
-                table: self.table,
-                labels: work,
-            },
+        let report = survey::report(table);
+        Settled {
+            table: *table,
+            report,
         }
     }
 
     // Takes in a table whose flow is greatest, and answers the change of the greatest value.
-    pub fn replace(&mut self, table: Table) -> i64
-        requires { Greatest (network_of table) (flow_of table) }
-        ensures same { self.new.table ≡ table }
-        ensures change { result ≡ change (network_of self.old.table) (network_of table) }
+    #[inline(always)]
+    pub fn replace(&mut self, table: &Table) -> i64
+        requires { Greatest (network_of table.now) (flow_of table.now) }
+        ensures same { self.new.table ≡ table.now }
+        ensures change { result ≡ change (network_of self.old.table) (network_of table.now) }
     {
         let before = self.report.value;
         let settled = Settled::from_table(table);
@@ -111,23 +118,24 @@ impl Settled {
         change
     }
 
-    // Augments from pump to outlet until there is no path, and takes the table in.
+    // Augments a table from pump to outlet until there is no path, and takes it in.
     // The answer is the change of the greatest value, and the number of augmentations.
-    pub fn refill<M: PathMetric>(&mut self, table: Table, work: &mut [Label<M>]) -> (i64, u32)
-        requires places { table.junctions ≤ length work.old }
-        requires flow { Flow (network_of table) (flow_of table) }
-        requires forth { inflow (network_of table) (flow_of table) table.pump ≤ outflow (network_of table) (flow_of table) table.pump }
-        ensures same { network_of self.new.table ≡ network_of table }
-        ensures change { result.0 ≡ change (network_of self.old.table) (network_of table) }
-        ensures count { Fills (network_of table) M.good M.start M.extended (flow_of table) result.1 (flow_of self.new.table) }
+    #[inline(always)]
+    pub fn refill<M: PathMetric>(&mut self, table: &mut Table, work: &mut [Label<M>]) -> (i64, u32)
+        requires places { table.old.junctions ≤ length work.old }
+        requires flow { Flow (network_of table.old) (flow_of table.old) }
+        requires forth { inflow (network_of table.old) (flow_of table.old) table.old.pump ≤ outflow (network_of table.old) (flow_of table.old) table.old.pump }
+        ensures same { network_of self.new.table ≡ network_of table.old }
+        ensures change { result.0 ≡ change (network_of self.old.table) (network_of table.old) }
+        ensures count { Fills (network_of table.old) M.good M.start M.extended (flow_of table.old) result.1 (flow_of self.new.table) }
         ensures few { result.1 ≤ 30720000 }
     {
         let mut filling = Augmenter {
-            table,
+            table: &mut *table,
             labels: work,
         };
         let count = filling.fill();
-        (self.replace(filling.table), count)
+        (self.replace(table), count)
     }
 
     // The same from dry pipes, which are a flow that brings nothing.
@@ -138,6 +146,7 @@ impl Settled {
         ensures change { result.0 ≡ change (network_of self.old.table) (network_of self.new.table) }
         ensures count { Fills (network_of self.new.table) M.good M.start M.extended (dry (network_of self.new.table)) result.1 (flow_of self.new.table) }
     {
-        self.refill(table, work)
+        let mut table = table;
+        self.refill(&mut table, work)
     }
 }

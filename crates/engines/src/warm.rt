@@ -2,6 +2,7 @@ ghost use Rattle.interface.specs.Works.{warm};
 
 use crate::keeper::FlowKeeper;
 use crate::keeping::Keeping;
+use crate::settle::to_mend;
 use crate::settled::Settled;
 use augmenting::rows::{change_row, set_valves};
 use network::pipe::Pipe;
@@ -28,7 +29,7 @@ impl Keeping for Warm {
     ) -> (i64, u32) {
         let mut table = settled.table;
         change_row(&mut table, pipe, old.limit, Valve::Open, old.flow);
-        settled.refill(table, work)
+        settled.refill(&mut table, work)
     }
 
     fn close<M: PathMetric>(
@@ -37,9 +38,10 @@ impl Keeping for Warm {
         old: Pipe,
         work: &mut [Label<M>],
     ) -> (i64, u32) {
-        let mut mending = settled.mending(work);
+        let mut table = settled.table;
+        let mut mending = to_mend(&mut table, work);
         let count = mending.lower(pipe, old.limit, Valve::Closed, 0);
-        (settled.replace(mending.augmenter.table), count)
+        (settled.replace(&table), count)
     }
 
     fn limit<M: PathMetric>(
@@ -49,14 +51,14 @@ impl Keeping for Warm {
         limit: u32,
         work: &mut [Label<M>],
     ) -> (i64, u32) {
+        let mut table = settled.table;
         if limit < old.flow {
-            let mut mending = settled.mending(work);
+            let mut mending = to_mend(&mut table, work);
             let count = mending.lower(pipe, limit, old.valve, limit);
-            (settled.replace(mending.augmenter.table), count)
+            (settled.replace(&table), count)
         } else {
-            let mut table = settled.table;
             change_row(&mut table, pipe, limit, old.valve, old.flow);
-            settled.refill(table, work)
+            settled.refill(&mut table, work)
         }
     }
 
@@ -65,11 +67,10 @@ impl Keeping for Warm {
         letters: &[u8],
         work: &mut [Label<M>],
     ) -> (i64, u32) {
-        let mut repair = settled.mending(work);
-        let closing = repair.close_marked(letters);
-        let mut table = repair.augmenter.table;
+        let mut table = settled.table;
+        let closing = to_mend(&mut table, work).close_marked(letters);
         set_valves(&mut table, letters);
-        let (change, filling) = settled.refill(table, work);
+        let (change, filling) = settled.refill(&mut table, work);
         (change, closing + filling)
     }
 }

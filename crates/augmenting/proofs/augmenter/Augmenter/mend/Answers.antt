@@ -21,7 +21,7 @@ module _ {Λ : Type 0} {good : Λ → Λ → Type 0} {start : Λ} {extended : Λ
 
 pub returns-clause-mends : goal.returns-clause-mends
 returns-clause-mends g c =
-    let t = c.args.self.now.table in
-    legs t c.lead-round.new.self.table c.give_back-back.new.self.table c.args.from c.args.to c.args.lost c.requires.from c.requires.to c.requires.torn c.lead-round.ensures.same c.give_back-back.ensures.same
-    c.lead-round.result.count c.lead-round.result.rest c.give_back-back.result c.give_back-forth.result (flow_of c.give_back-forth.new.self.table)
+    let t = c.args.self.now.table.now in
+    legs t c.lead-round.new.self.table.now c.give_back-back.new.self.table.now c.args.from c.args.to c.args.lost c.requires.from c.requires.to c.requires.torn c.lead-round.ensures.same c.give_back-back.ensures.same
+    c.lead-round.result.count c.lead-round.result.rest c.give_back-back.result c.give_back-forth.result (flow_of c.give_back-forth.new.self.table.now)
     c.lead-round.ensures.leads c.lead-round.ensures.blocked c.give_back-back.ensures.gives c.give_back-forth.ensures.gives

@@ -6,6 +6,7 @@ use Rattle.augmenting.proofs.greatest_flow.GreatestFlow.close_marked.Given as go
 abbrev pub invariant-loop-k : goal.invariant-loop-k
 invariant-loop-k g l =
     let m = g.M.PathMetric in
-    (l.self.augmenter.table.count ≡ l.initial.self.augmenter.table.count)
-    × Closings m.good m.start m.extended (network_of l.initial.self.augmenter.table) (flow_of l.initial.self.augmenter.table) l.letters l.k (network_of l.self.augmenter.table) l.count (flow_of l.self.augmenter.table)
+    (l.self.table.now.count ≡ l.initial.self.table.now.count)
+    × Closings m.good m.start m.extended (network_of l.initial.self.table.now) (flow_of l.initial.self.table.now) l.letters l.k (network_of l.self.table.now) l.count (flow_of l.self.table.now)
     × (l.count ≤ l.k * 180000)
+    × (l.self.table.ghost_name ≡ l.initial.self.table.ghost_name) × (l.self.labels.ghost_name ≡ l.initial.self.labels.ghost_name)

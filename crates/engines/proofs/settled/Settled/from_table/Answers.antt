@@ -5,5 +5,5 @@ use Rattle.engines.proofs.settled.Settled.from_table.Goals as goal
 
 pub invariant_of-result : goal.invariant_of-result
 invariant_of-result c =
-    let t = c.args.table in
+    let t = c.args.table.now in
     record { greatest = c.requires; reported = c.report-report.ensures.whole c.requires.flow (no_path (network_of t) (table_wired t) (flow_of t) c.requires) }
