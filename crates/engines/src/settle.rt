@@ -139,6 +139,7 @@ impl Settled {
     }
 
     // The same from dry pipes, which are a flow that brings nothing.
+    #[inline(always)]
     pub fn restart<M: PathMetric>(&mut self, table: Table, work: &mut [Label<M>]) -> (i64, u32)
         requires places { table.junctions ≤ length work.old }
         requires dry { flow_of table ≡ dry (network_of table) }
