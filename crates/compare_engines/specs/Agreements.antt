@@ -1,9 +1,10 @@
 -- What four engines answered to the same calls.
-use Rattle.std.specs.Prelude.{◌≡◌, ℕ, suc, ◌<◌, min, List, length, vec_items, vec_len}
+use Rattle.std.specs.Prelude.{◌≡◌, ℕ, suc, ◌<◌, min, List, length, Option, Some, None, vec_items, vec_len}
 use Rattle.paths.specs.Fews.{few, Fewer, lengthened}
 use Rattle.paths.specs.Widths.{unbounded, Wider, narrowed}
 use Rattle.interface.specs.Works.{Manner, warm, cold}
 use Rattle.runs.specs.declared.answer.Answer.{Answer}
+use Rattle.runs.specs.declared.answer.Answer.TheVariants.{Loaded, Changed, Reported, Governs, Sheet, Flow, Refused, SheetRefused, FlowRefused}
 use Rattle.runs.specs.declared.call.Call.{Call}
 use Rattle.runs.specs.Agreements.{Agree, SameCalls}
 use Rattle.runs.specs.Statements.{Tells, Faithful}
@@ -21,6 +22,18 @@ AgreeAt xs bs cs ds i = (a b c d : Answer) → Tells xs i a → Tells bs i b →
 -- and with every call
 abbrev pub FourAgree : List Answer → List Answer → List Answer → List Answer → Type 0
 FourAgree xs bs cs ds = (i : ℕ) → AgreeAt xs bs cs ds i
+
+-- the number of augmentations in an answer that has one
+abbrev pub count_in : Answer → Option ℕ
+count_in (Loaded n) = None
+count_in (Changed d n) = Some n
+count_in (Reported r) = None
+count_in (Governs b) = None
+count_in (Sheet n v) = None
+count_in (Flow n v) = None
+count_in (Refused e) = None
+count_in (SheetRefused e v) = None
+count_in (FlowRefused e v) = None
 
 -- the four answers to call i
 abbrev pub TellsEach : Four → ℕ → Told → Type 0

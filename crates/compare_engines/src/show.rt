@@ -1,5 +1,5 @@
-ghost use Rattle.std.specs.Prelude.{◌≤◌, length};
-ghost use Rattle.compare_engines.specs.Agreements.{answered};
+ghost use Rattle.std.specs.Prelude.{◌≡◌, ◌≤◌, length};
+ghost use Rattle.compare_engines.specs.Agreements.{answered, count_in};
 
 use crate::four::{Four, Told};
 use crate::script::Script;
@@ -38,16 +38,25 @@ impl<'a> Told<'a> {
     }
 }
 
-// A change with its sign, and the numbers of augmentations, which may differ. `{change:+}` would write a plus before 0 too.
+// The number of augmentations in an answer that has one.
+fn augmentations(answer: &Answer) -> Option<u32>
+    ensures { result ≡ count_in answer.now }
+{
+    match answer {
+        Answer::Changed { augmentations, .. } => Some(*augmentations),
+        _ => None,
+    }
+}
+
+// A change with its sign, and the numbers of augmentations, which may differ. The answers agree, so that each has a number.
+// By one write, since a script may have very many changes. `{change:+}` would write a plus before 0 too.
 fn show_change(rt: &HostRuntime, change: i64, told: &Told) -> io::Result<()> {
     let sign = if change > 0 { "+" } else { "" };
-    print!(rt; "changed {sign}{change}, augmentations")?;
-    for (_, answer) in told.each() {
-        if let Answer::Changed { augmentations, .. } = answer {
-            print!(rt; " {augmentations}")?;
-        }
-    }
-    println!(rt; "")
+    let a = augmentations(told.warm_fewest).unwrap_or(0);
+    let b = augmentations(told.warm_widest).unwrap_or(0);
+    let c = augmentations(told.cold_fewest).unwrap_or(0);
+    let d = augmentations(told.cold_widest).unwrap_or(0);
+    println!(rt; "changed {sign}{change}, augmentations {a} {b} {c} {d}")
 }
 
 // The value, and a letter for each junction as in a page.
