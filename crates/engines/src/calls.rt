@@ -2,7 +2,7 @@ ghost use Rattle.network.specs.Pipes.{network_of, flow_of};
 ghost use Rattle.interface.specs.Works.{Works};
 ghost use Rattle.network.proofs.TableFacts.{table_sound};
 ghost use Rattle.std.proofs.Common.{rules};
-ghost use Rattle.engines.specs.Kept.{kept_near, kept_far};
+ghost use Rattle.engines.specs.Kept.{kept_greatest, kept_near, kept_far};
 
 use crate::admission::admit_load;
 use crate::keeper::FlowKeeper;
@@ -97,7 +97,7 @@ impl<M: PathMetric, K: Keeping> FlowEngine for FlowKeeper<M, K> {
 
     ghost kept = { λ e. flow_of e.settled.table };
 
-    ghost greatest = { λ e. e.settled.greatest };
+    ghost greatest = { λ e. kept_greatest e.settled };
 
     ghost near = { λ e. kept_near e.settled };
 

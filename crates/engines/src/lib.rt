@@ -7,4 +7,5 @@ pub mod keeper;
 pub mod keeping;
 pub mod settle;
 pub mod settled;
+pub mod theorems;
 pub mod warm;

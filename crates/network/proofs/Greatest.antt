@@ -206,3 +206,9 @@ path_greatest w wired f h none = apart_greatest w wired f h apart _ _ (is_reache
   where
     apart : Reaches w f w.pump w.outlet → ⊥
     apart r = let p = reaches_path w wired f w.pump wired.pump_in w.outlet r in none p.0 p.1
+
+-- no flow brings more than the report's value
+pub flow_le : (w : Network) → Wired w → (f : List ℕ) → Flow w f → value w f ≤ℤ pos (report_of w).value
+flow_le w wired f h =
+    let m = some_minimum w wired in
+    omega (arith, ints, weak_duality_lem w wired f h m.0 m.1.cut, least_is w wired m.0 m.1, value_is w)
