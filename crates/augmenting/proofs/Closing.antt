@@ -17,11 +17,11 @@ closed_or_not (Some Closed) = inl refl
 closed_or_not (Some Unchanged) = inr (λ e. let z : ◌≡◌ {A = ℕ} 0 1 = cc in omega arith)
 
 module _ {Λ : Type 0} {good : Λ → Λ → Type 0} {start : Λ} {extended : Λ → ℕ → Λ} where
-  -- pipes stay in number
-  pub closes_same : (w : Network) (f : List ℕ) (k : ℕ) (o : Option Setting) (u : Network) (n : ℕ) (g : List ℕ) → ClosesBy good start extended w f k o u n g → size u ≡ size w
+  -- junctions and pipes stay in number
+  pub closes_same : (w : Network) (f : List ℕ) (k : ℕ) (o : Option Setting) (u : Network) (n : ℕ) (g : List ℕ) → ClosesBy good start extended w f k o u n g → (u.junctions ≡ w.junctions) × (size u ≡ size w)
   closes_same w f k o u n g c = elim (closed_or_not o) [
-    | inl e ↦ ap size (c.closes e).0 ∙ length-set w.pipes k _
-    | inr e ↦ ap size (c.leaves e).0
+    | inl e ↦ let z = c.closes e in (ap (λ (v : Network). v.junctions) z.0, ap size z.0 ∙ length-set w.pipes k _)
+    | inr e ↦ let z = c.leaves e in (ap (λ (v : Network). v.junctions) z.0, ap size z.0)
   ]
 
   -- one letter more

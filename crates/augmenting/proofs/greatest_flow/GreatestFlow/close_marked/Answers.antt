@@ -18,7 +18,7 @@ loop-k-preserved g c =
     let o = setting_of (get_or c.args.letters.now k 0) in
     let by = c.close_by-count.ensures.closes in
     let same = closes_same (network_of u) (flow_of u) k o (network_of v) c.close_by-count.result (flow_of v) by in (
-      sym (table_size v) ∙ same ∙ table_size u ∙ c.loop-k.invariant.0,
+      sym (table_size v) ∙ same.1 ∙ table_size u ∙ c.loop-k.invariant.0,
       closings_more (network_of t) (flow_of t) c.args.letters.now k (network_of u) c.loop-k.count (flow_of u) c.loop-k.invariant.1 (network_of v) c.close_by-count.result (flow_of v) by,
       omega (arith, c.close_by-count.ensures.few, c.loop-k.invariant.2),
       c.close_by-count.ensures.same_table ∙ c.loop-k.invariant.3,
