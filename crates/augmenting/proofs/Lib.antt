@@ -11,4 +11,3 @@ pub mod Leading
 pub mod Valves
 pub mod Lowering
 pub mod Closing
-pub mod Dried

@@ -15,6 +15,9 @@ use Rattle.formats.specs.Letters.{setting_of}
 use Rattle.interface.specs.Verdicts.{set_by, each_set_by, patterned}
 use Rattle.augmenting.specs.Settings.{valve_by}
 
+pub same_count : (t u : Table) → network_of t ≡ network_of u → t.count ≡ u.count
+same_count t u e = sym (table_size t) ∙ ap size e ∙ table_size u
+
 -- pipes that carry nothing are dry
 pub all_dry : (t : Table) → ((i : ℕ) → i < t.count → carried (flow_of t) i ≡ 0) → flow_of t ≡ dry (network_of t)
 all_dry t each =

@@ -39,8 +39,11 @@ pub fn dry_out(table: &mut Table)
     ensures same { network_of table.new ≡ network_of table.old }
     ensures dry { flow_of table.new ≡ dry (network_of table.old) }
 {
-    for row in &mut table.rows {
-        row.flow = 0;
+    // By the pipe's number: of a slice of the rows, or of so many taken from all, nothing would be known behind the loop,
+    // and going over all rows a small network would cost as much as the largest.
+    for pipe in 0..table.count {
+        let row = table.rows[pipe];
+        change_row(table, pipe, row.limit, row.valve, 0);
     }
 }
 

@@ -19,23 +19,14 @@ use network::valve::Valve;
 use paths::label::Label;
 use paths::metric::PathMetric;
 
-// The table with dry pipes.
-fn dried(table: &Table) -> Table
-    ensures same { network_of result ≡ network_of table.now }
-    ensures dry { flow_of result ≡ dry (network_of table.now) }
-{
-    let mut dried = *table;
-    dry_out(&mut dried);
-    dried
-}
-
 // The table with its valves set by a letter for each pipe, and dry.
 pub fn with_pattern(table: &Table, letters: &[u8]) -> Table
     requires { length letters.now ≡ table.now.count }
     ensures network { network_of result ≡ patterned (network_of table.now) letters.now }
     ensures dry { flow_of result ≡ dry (network_of result) }
 {
-    let mut set = dried(table);
+    let mut set = *table;
+    dry_out(&mut set);
     set_valves(&mut set, letters);
     set
 }
@@ -48,7 +39,8 @@ pub fn with_row(table: &Table, k: usize, limit: u32, valve: Valve) -> Table
     ensures network { network_of result ≡ with_pipe (network_of table.now) k (with_valve (with_limit (pipe (network_of table.now) k) limit) valve) }
     ensures dry { flow_of result ≡ dry (network_of result) }
 {
-    let mut changed = dried(table);
+    let mut changed = *table;
+    dry_out(&mut changed);
     change_row(&mut changed, k, limit, valve, 0);
     changed
 }
