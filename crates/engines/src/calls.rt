@@ -47,8 +47,8 @@ impl<M: PathMetric, K: Keeping> Engine for FlowKeeper<M, K> {
 
     // Nothing is kept of the flow before, in any manner: the sheet's network begins with dry pipes.
     fn load(&mut self, text: &[u8], work: &mut [Label<M>]) -> Result<usize, Refusal> {
-        let (table, taken) = admit_load(text, work.len())?;
-        self.settled.restart(table, work);
+        let (mut table, taken) = admit_load(text, work.len())?;
+        self.settled.restart(&mut table, work);
         Ok(taken)
     }
 

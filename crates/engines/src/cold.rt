@@ -25,8 +25,8 @@ impl Keeping for Cold {
         old: Pipe,
         work: &mut [Label<M>],
     ) -> (i64, u32) {
-        let table = with_row(&settled.table, pipe, old.limit, Valve::Open);
-        settled.restart(table, work)
+        let mut table = with_row(&settled.table, pipe, old.limit, Valve::Open);
+        settled.restart(&mut table, work)
     }
 
     fn close<M: PathMetric>(
@@ -35,8 +35,8 @@ impl Keeping for Cold {
         old: Pipe,
         work: &mut [Label<M>],
     ) -> (i64, u32) {
-        let table = with_row(&settled.table, pipe, old.limit, Valve::Closed);
-        settled.restart(table, work)
+        let mut table = with_row(&settled.table, pipe, old.limit, Valve::Closed);
+        settled.restart(&mut table, work)
     }
 
     fn limit<M: PathMetric>(
@@ -46,8 +46,8 @@ impl Keeping for Cold {
         limit: u32,
         work: &mut [Label<M>],
     ) -> (i64, u32) {
-        let table = with_row(&settled.table, pipe, limit, old.valve);
-        settled.restart(table, work)
+        let mut table = with_row(&settled.table, pipe, limit, old.valve);
+        settled.restart(&mut table, work)
     }
 
     fn pattern<M: PathMetric>(
@@ -55,7 +55,7 @@ impl Keeping for Cold {
         letters: &[u8],
         work: &mut [Label<M>],
     ) -> (i64, u32) {
-        let table = with_pattern(&settled.table, letters);
-        settled.restart(table, work)
+        let mut table = with_pattern(&settled.table, letters);
+        settled.restart(&mut table, work)
     }
 }

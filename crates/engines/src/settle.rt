@@ -82,8 +82,10 @@ impl Settled {
         }
     }
 
+    // These four take a table in, which is copied once, when its report is known. They are inlined, so that it is known for
+    // another than the table that is replaced: else the copy would want `memmove`.
+
     // A table whose flow is greatest, with the report of its network. It asks for that flow, so it is no `From`.
-    // The table is copied once, when its report is known: given by value it was copied for the report too.
     #[inline(always)]
     pub fn from_table(table: &Table) -> Settled
         requires { Greatest (network_of table.now) (flow_of table.now) }
@@ -132,14 +134,13 @@ impl Settled {
 
     // The same from dry pipes, which are a flow that brings nothing.
     #[inline(always)]
-    pub fn restart<M: PathMetric>(&mut self, table: Table, work: &mut [Label<M>]) -> (i64, u32)
-        requires places { table.junctions ≤ length work.old }
-        requires dry { flow_of table ≡ dry (network_of table) }
-        ensures same { network_of self.new.table ≡ network_of table }
+    pub fn restart<M: PathMetric>(&mut self, table: &mut Table, work: &mut [Label<M>]) -> (i64, u32)
+        requires places { table.old.junctions ≤ length work.old }
+        requires dry { flow_of table.old ≡ dry (network_of table.old) }
+        ensures same { network_of self.new.table ≡ network_of table.old }
         ensures change { result.0 ≡ change (network_of self.old.table) (network_of self.new.table) }
         ensures count { Fills (network_of self.new.table) M.good M.start M.extended (dry (network_of self.new.table)) result.1 (flow_of self.new.table) }
     {
-        let mut table = table;
-        self.refill(&mut table, work)
+        self.refill(table, work)
     }
 }
