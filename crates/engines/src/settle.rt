@@ -123,6 +123,7 @@ impl Settled {
         ensures change { result.0 ≡ change (network_of self.old.table) (network_of table.old) }
         ensures count { Fills (network_of table.old) M.good M.start M.extended (flow_of table.old) result.1 (flow_of self.new.table) }
         ensures few { result.1 ≤ 30720000 }
+        ensures taken { table.new ≡ self.new.table }
     {
         let mut filling = Augmenter {
             table: &mut *table,
@@ -140,6 +141,7 @@ impl Settled {
         ensures same { network_of self.new.table ≡ network_of table.old }
         ensures change { result.0 ≡ change (network_of self.old.table) (network_of self.new.table) }
         ensures count { Fills (network_of self.new.table) M.good M.start M.extended (dry (network_of self.new.table)) result.1 (flow_of self.new.table) }
+        ensures taken { table.new ≡ self.new.table }
     {
         self.refill(table, work)
     }
